@@ -1,0 +1,5 @@
+-- What is shown of the rules.
+pub mod Computing
+pub mod WorkedCases
+pub mod Unique
+pub mod Refusals
