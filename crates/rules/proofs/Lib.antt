@@ -3,3 +3,10 @@ pub mod Computing
 pub mod WorkedCases
 pub mod Unique
 pub mod Refusals
+pub mod After
+pub mod Lists
+pub mod Spelling
+pub mod ReadRecords
+pub mod Constants
+pub mod Accepted
+pub mod Faithful

@@ -45,13 +45,13 @@ other-trees-read b h short = rw (h, leb-true (length (b .tree)) 16777216 short, 
 -- "with every writable buffer zero on refusal", and every number of the report but the refusal's two
 pub refused-leaves-zeros : (b : Lent) (number place : ℕ) → run b ≡ refuse number place
     → call b ≡ record {
-        report = report-of (refuse number place);
-        out = zeroed (b .out);
-        diagnostics = zeroed (b .diagnostics);
-        locals = zeroed (b .locals);
-        frames = zeroed (b .frames);
-        captures = zeroed (b .captures);
-        references = zeroed (b .references);
-      }
+      report = report-of (refuse number place);
+      out = zeroed (b .out);
+      diagnostics = zeroed (b .diagnostics);
+      locals = zeroed (b .locals);
+      frames = zeroed (b .frames);
+      captures = zeroed (b .captures);
+      references = zeroed (b .references);
+    }
 unfolding call left-by report-of out-of diagnostics-of filled zeroed
 refused-leaves-zeros b number place h = rw h (simp sub-zero)

@@ -16,3 +16,4 @@ pub mod Scoping
 pub mod Walk
 pub mod Call
 pub mod Cases
+pub mod OwnCases

@@ -19,6 +19,11 @@ unfoldable pub Numbers : List ℕ → Type 0
 Numbers [] = Unit {0}
 Numbers (n ∷ ns) = (n < 4294967296) × Numbers ns
 
+-- what a byte holds
+unfoldable pub Bytes : List ℕ → Type 0
+Bytes [] = Unit {0}
+Bytes (b ∷ bs) = (b < 256) × Bytes bs
+
 -- a record that a table allows, with its numbers in range
 pub record RecordFits {A : Type 0} (table : List (Mark × A)) (m : Mark) (row : A) (ns : List ℕ) : Type 0 where
   pub known : row-of (code m) table ≡ some (m, row)
