@@ -1,6 +1,6 @@
 -- What holds of an answer that is no refusal, carried through each way in which the definitions put answers together. Assumes nothing.
 use Prim.Native.Nat.{ℕ, zero, suc}
-use mathlib.Core.Bool.{Bool, true, false}
+use mathlib.Core.Bool.{Bool, true, false, false≢true}
 use mathlib.Core.Option.{Option, none, some}
 use mathlib.Core.Path.{_≡_, refl, subst}
 use Rattle.rules.specs.Outcome.{Outcome, ok, refuse, _>>=_, need, choose, given}
@@ -18,7 +18,7 @@ after-ok {A = A} {P = P} {a = a} h e = of-ok (subst (λ (o : Outcome A). After P
     of-ok : After P (ok a) → P a
     of-ok (fine h) = h
 
--- the first steps need only be shown for what the later ones are told
+-- and so does what follows from it
 pub after-weaken : {A : Type 0} {P Q : A → Type 0} {o : Outcome A} → After P o → ((a : A) → P a → Q a) → After Q o
 after-weaken (fine h) k = fine (k _ h)
 after-weaken refused k = refused
@@ -39,20 +39,27 @@ unfolding choose
 chosen P true x y h k = h refl
 chosen P false x y h k = k refl
 
+-- where one test follows another, both have passed
+pub both-passed : (a : Bool) (b : Unit {0} → Bool) → choose a b (λ _. false) ≡ true → (a ≡ true) × (b tt ≡ true)
+unfolding choose
+both-passed true b e = (refl, e)
+both-passed false b e = absurd (false≢true e)
+
 pub after-choose : {A : Type 0} {Q : A → Type 0} (b : Bool) (x y : Unit {0} → Outcome A) → (b ≡ true → After Q (x tt)) → (b ≡ false → After Q (y tt)) → After Q (choose b x y)
 after-choose {Q = Q} b x y h k = chosen (After Q) b x y h k
 
 pub after-given : {A B : Type 0} {Q : A → Type 0} (o : Option B) (x : Unit {0} → Outcome A) (f : B → Outcome A)
-    → (_≡_ {A = Option B} o none → After Q (x tt)) → ((b : B) → o ≡ some b → After Q (f b)) → After Q (given o x f)
+    → (o ≡ none → After Q (x tt)) → ((b : B) → o ≡ some b → After Q (f b)) → After Q (given o x f)
 unfolding given
 after-given none x f h k = h refl
 after-given (some b) x f h k = k b refl
 
--- P n p a q: `a` is n items and the rest, from p to q
+-- P n p a q: `a` is n items and the rest, from p to q; an item that was read at p puts itself before what follows it
+abbrev pub Puts : {A : Type 0} → (ℕ → ℕ → A → ℕ → Type 0) → ℕ → (A → A) × ℕ → Type 0
+Puts {A = A} P p item = (n : ℕ) (others : A) (r : ℕ) → P n (item .1) others r → P (suc n) p (item .0 others) r
+
 pub after-many : {A : Type 0} (P : ℕ → ℕ → A → ℕ → Type 0) (item : ℕ → Outcome ((A → A) × ℕ)) (rest : ℕ → Outcome (A × ℕ))
-    → ((p : ℕ) → After (λ i. (n : ℕ) (others : A) (r : ℕ) → P n (i .1) others r → P (suc n) p (i .0 others) r) (item p))
-    → ((p : ℕ) → After (λ a. P 0 p (a .0) (a .1)) (rest p))
-    → (n p : ℕ) → After (λ a. P n p (a .0) (a .1)) (many item rest n p)
+    → ((p : ℕ) → After (Puts P p) (item p)) → ((p : ℕ) → After (λ a. P 0 p (a .0) (a .1)) (rest p)) → (n p : ℕ) → After (λ a. P n p (a .0) (a .1)) (many item rest n p)
 unfolding many
 after-many P item rest h k zero p = k p
 after-many P item rest h k (suc n) p = after-bind _ (h p) λ i put. after-bind _ (after-many P item rest h k n (i .1)) λ a all. fine (put n (a .0) (a .1) all)

@@ -10,3 +10,9 @@ pub mod ReadRecords
 pub mod Constants
 pub mod Accepted
 pub mod Faithful
+pub mod RecordsBack
+pub mod Encoded
+pub mod EncodedBytes
+pub mod Growing
+pub mod Spreading
+pub mod Rounds

@@ -1,18 +1,18 @@
 -- What is known of a record that the first walk has read: it fits its table, and its bytes stand there. Assumes nothing.
-use Prim.Native.Nat.{ℕ, zero, suc, _+_, _<_}
+use Prim.Native.Nat.{ℕ, zero, suc, _+_}
 use native.Mathlib.Omega.{arith}
-use mathlib.Core.Bool.{Bool, true, false, false≢true}
+use mathlib.Core.Bool.{Bool, true}
 use mathlib.Core.List.{List, [], _∷_}
 use mathlib.Core.Option.{Option, none, some, Option·none-ne-some, Option·some-injective}
 use mathlib.Core.Path.{_≡_, refl, ap, subst, subst₂, _∙_}
 use lib.ListN.{drop}
-use lib.Dec.{ltb, leb→le, ltb→lt, eqb→eq}
-use Rattle.rules.specs.Outcome.{choose}
+use lib.Dec.{ltb}
+use borrow.Author.Tests.{leb-true, eqb-true}
 use Rattle.rules.specs.Numbers.{Mark, code, code-at, record-bytes, bit, is-set}
 use Rattle.rules.specs.Records.{Kind, width, numbers-of, size-of, in-range, all-in-range}
 use Rattle.rules.specs.FirstWalk.{Read, row-of, allowed, record-at, only}
 use Rattle.rules.specs.Range.{Bytes, RecordFits}
-use Rattle.rules.proofs.After.{After, fine, refused, chosen, after-weaken, after-bind, after-need}
+use Rattle.rules.proofs.After.{both-passed, After, fine, refused, chosen, after-weaken, after-bind, after-need}
 use Rattle.rules.proofs.Lists.{Piece, piece-then, firsts, firsts-all}
 use Rattle.rules.proofs.Spelling.{mark-spelled, numbers-spelled, numbers-in-range, length-numbers-at}
 
@@ -27,7 +27,7 @@ pub row-found : {A : Type 0} (P : Mark × A → Type 0) (c : ℕ) (table : List 
 unfolding row-of
 row-found P c [] x h = λ e. absurd (Option·none-ne-some _ e)
 row-found {A = A} P c (r ∷ rs) x h = chosen (λ (o : Option (Mark × A)). o ≡ some x → (c ≡ code (x .0)) × P x) _ _ _
-    (λ same e. subst (λ (y : Mark × A). (c ≡ code (y .0)) × P y) (Option·some-injective r x e) (eqb→eq c (code (r .0)) (rw same tt), h .0))
+    (λ same e. subst (λ (y : Mark × A). (c ≡ code (y .0)) × P y) (Option·some-injective r x e) (eqb-true c (code (r .0)) same, h .0))
     (λ _. row-found P c rs x (h .1))
 
 every : {A : Type 0} {P : A → Type 0} (xs : List A) → ((x : A) → P x) → Every P xs
@@ -55,7 +55,7 @@ record-read s bytes table p =
     let c : code-at s p ≡ code (row .0) = row-found (λ _. Unit {0}) _ table row (every table (λ _. tt)) found .0 in
     fine (record {
       fits = record { known = rw c at found; counted = length-numbers-at s _ (p + 2); numbers = numbers-in-range s bytes _ (p + 2); judged = judged };
-      spelled = piece-then (mark-spelled s bytes p (row .0) (leb→le _ _ (rw enough tt)) c) (numbers-spelled s bytes _ (p + 2) _ (omega arith) (leb→le _ _ (rw whole tt)));
+      spelled = piece-then (mark-spelled s bytes p (row .0) (leb-true _ _ enough) c) (numbers-spelled s bytes _ (p + 2) _ (omega arith) (leb-true _ _ whole));
       behind = refl;
     })
 
@@ -80,13 +80,7 @@ only-read s bytes m p = after-weaken (record-read s bytes (only m) p) λ r w.
 pub flag-is : (n : ℕ) {b : Bool} → ltb n 2 ≡ true → is-set n ≡ b → n ≡ bit b
 unfolding is-set
 flag-is zero small e = ap bit e
-flag-is (suc n) small e = let h : suc n < 2 = ltb→lt (suc n) 2 (rw small tt) in let one : suc n ≡ 1 = omega arith in one ∙ ap bit e
-
--- where one test follows another, both have passed
-pub both-passed : (a : Bool) (b : Unit {0} → Bool) → choose a b (λ _. false) ≡ true → (a ≡ true) × (b tt ≡ true)
-unfolding choose
-both-passed true b e = (refl, e)
-both-passed false b e = absurd (false≢true e)
+flag-is (suc n) small e = let one : suc n ≡ 1 = omega (arith, leb-true (suc (suc n)) 2 small) in one ∙ ap bit e
 
 -- each field of a record is in range
 abbrev pub InRange : List Kind → List ℕ → Type 0

@@ -1,31 +1,13 @@
 -- What holds of refusals on every input: 13 and 14 by lengths alone, and that a refused call leaves zeros everywhere. Assumes nothing.
 use Prim.Native.Nat.{ℕ, _<_, _≤_}
 use mathlib.Core.Bool.{Bool, true, false}
-use mathlib.Core.List.{List, [], _++_}
-use mathlib.Core.Path.{_≡_, refl, ap}
-use lib.ListN.{length, replicate}
-use lib.Dec.{T, leb, leb→le, le→leb}
+use mathlib.Core.Path.{_≡_}
+use lib.ListN.{length}
 use native.Mathlib.Nat.{sub-zero}
-use native.Mathlib.Omega.{arith}
+use borrow.Author.Tests.{le-leb, lt-leb}
 use Rattle.rules.specs.Outcome.{Outcome, ok, refuse, _>>=_, need}
 use Rattle.rules.specs.FirstWalk.{tree-at}
 use Rattle.rules.specs.Call.{Lent, limits-of, tables-fit, run, report-of, out-of, diagnostics-of, analyze-root, filled, zeroed, left-by, call}
-
--- tests as equations
-
-leb-true : (m n : ℕ) → m ≤ n → leb m n ≡ true
-leb-true m n h = by (leb m n) (le→leb m n h)
-  where
-    by : (b : Bool) → T b → b ≡ true
-    by true t = refl
-    by false t = absurd t
-
-leb-false : (m n : ℕ) → n < m → leb m n ≡ false
-leb-false m n h = by (leb m n) (leb→le m n)
-  where
-    by : (b : Bool) → (T b → m ≤ n) → b ≡ false
-    by true f = absurd (let le : m ≤ n = f tt in omega arith)
-    by false f = refl
 
 -- "a table is shorter than 16 numbers per entry of its limit", whatever the tree is
 pub short-tables-refused : (b : Lent) → tables-fit b ≡ false → run b ≡ refuse 13 0
@@ -35,12 +17,12 @@ short-tables-refused b h = rw (h, run)
 -- "the tree is over 16,777,216 bytes", whatever the bytes are
 pub long-tree-refused : (b : Lent) → tables-fit b ≡ true → 16777216 < length (b .tree) → run b ≡ refuse 14 0
 unfolding run need _>>=_
-long-tree-refused b h long = rw (h, leb-false (length (b .tree)) 16777216 long, run)
+long-tree-refused b h long = rw (h, lt-leb (length (b .tree)) 16777216 long, run)
 
 -- and at that very length, and below it, the tree is read
 pub other-trees-read : (b : Lent) → tables-fit b ≡ true → length (b .tree) ≤ 16777216 → run b ≡ (tree-at (b .tree) >>= analyze-root (limits-of b))
 unfolding run need _>>=_
-other-trees-read b h short = rw (h, leb-true (length (b .tree)) 16777216 short, run)
+other-trees-read b h short = rw (h, le-leb (length (b .tree)) 16777216 short, run)
 
 -- "with every writable buffer zero on refusal", and every number of the report but the refusal's two
 pub refused-leaves-zeros : (b : Lent) (number place : ℕ) → run b ≡ refuse number place

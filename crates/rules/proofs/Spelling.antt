@@ -1,4 +1,4 @@
--- Numbers, marks and records as bytes: what is read at a place is spelled there. Assumes nothing.
+-- Numbers and marks as bytes: what is read at a place is spelled there, and what is spelled there is read. Assumes nothing.
 use Prim.Native.Nat.{ℕ, zero, suc, _+_, _*_, _/_, _%_, _≤_, _<_}
 use native.Mathlib.Omega.{arith}
 use native.Mathlib.Nat.{div-div-eq-div-mul}
@@ -8,7 +8,13 @@ use lib.ListN.{length, getD}
 use lib.Dec.{lit<}
 use Rattle.rules.specs.Numbers.{number-at, numbers-at, number-bytes, numbers-bytes, code-at, mark-bytes, code, Mark}
 use Rattle.rules.specs.Range.{Bytes, Numbers}
-use Rattle.rules.proofs.Lists.{Piece, piece-none, piece-then, piece-one, piece-first, piece-second, piece-element, byte-below}
+use Rattle.rules.proofs.Lists.{Piece, piece-none, piece-then, piece-one, piece-first, piece-second, piece-element}
+
+byte-below : (s : List ℕ) (p : ℕ) → Bytes s → getD s p 0 < 256
+unfolding Bytes
+byte-below [] p h = omega arith
+byte-below (b ∷ bs) zero h = h .0
+byte-below (b ∷ bs) (suc p) h = byte-below bs p (h .1)
 
 -- four bytes are those of the number that they make
 four-bytes : (a b c d : ℕ) → a < 256 → b < 256 → c < 256 → d < 256 → number-bytes (a + 256 * b + 65536 * c + 16777216 * d) ≡ a ∷ b ∷ c ∷ d ∷ []
@@ -28,17 +34,13 @@ four-bytes a b c d ha hb hc hd = λ i. first i ∷ second i ∷ third i ∷ four
     fourth = omega arith
 
 module _ (s : List ℕ) (bytes : Bytes s) where
-  -- the byte at a place
-  byte-spelled : (p q : ℕ) → q ≡ suc p → q ≤ length s → Piece s p (getD s p 0 ∷ []) q
-  byte-spelled p q e h = piece-one s p q 0 (omega arith) e
-
   number-spelled : (p : ℕ) → p + 4 ≤ length s → Piece s p (number-bytes (number-at s p)) (p + 4)
   unfolding number-at
   number-spelled p h =
       rw (four-bytes (getD s p 0) (getD s (p + 1) 0) (getD s (p + 2) 0) (getD s (p + 3) 0)
       (byte-below s p bytes) (byte-below s (p + 1) bytes) (byte-below s (p + 2) bytes) (byte-below s (p + 3) bytes))
-      (piece-then (byte-spelled p (p + 1) (omega arith) (omega arith)) (piece-then (byte-spelled (p + 1) (p + 2) (omega arith) (omega arith))
-      (piece-then (byte-spelled (p + 2) (p + 3) (omega arith) (omega arith)) (byte-spelled (p + 3) (p + 4) (omega arith) h))))
+      (piece-then (piece-one s p (p + 1) 0 (omega arith) (omega arith)) (piece-then (piece-one s (p + 1) (p + 2) 0 (omega arith) (omega arith))
+      (piece-then (piece-one s (p + 2) (p + 3) 0 (omega arith) (omega arith)) (piece-one s (p + 3) (p + 4) 0 (omega arith) h))))
 
   pub numbers-spelled : (n p q : ℕ) → q ≡ p + 4 * n → q ≤ length s → Piece s p (numbers-bytes (numbers-at s n p)) q
   unfolding numbers-bytes numbers-at
@@ -47,7 +49,7 @@ module _ (s : List ℕ) (bytes : Bytes s) where
 
   pub mark-spelled : (p : ℕ) (m : Mark) → p + 2 ≤ length s → code-at s p ≡ code m → Piece s p (mark-bytes m) (p + 2)
   unfolding code-at mark-bytes
-  mark-spelled p m h e = rw (high, low) (piece-then (byte-spelled p (p + 1) (omega arith) (omega arith)) (byte-spelled (p + 1) (p + 2) (omega arith) h))
+  mark-spelled p m h e = rw (high, low) (piece-then (piece-one s p (p + 1) 0 (omega arith) (omega arith)) (piece-one s (p + 1) (p + 2) 0 (omega arith) h))
     where
       high : code m / 256 ≡ getD s p 0
       high = omega (arith, byte-below s (p + 1) bytes)

@@ -91,13 +91,9 @@ is-static seen (computed place h name hs) = false
 unfoldable pub entered-use : (outermost : Bool) → ObjectUse → ObjectUse
 entered-use outermost u = record { self-used = false; super-used = false; dollar-used = choose outermost (λ _. false) (λ _. u .dollar-used) }
 
--- the marks of the object around one that closes; "forgetting to restore `$` after the outermost object" is a trap
-unfoldable pub left-use : (outermost : Bool) → (before : ObjectUse) → ObjectUse → ObjectUse
-left-use outermost before u = record {
-  self-used = before .self-used;
-  super-used = before .super-used;
-  dollar-used = choose outermost (λ _. before .dollar-used) (λ _. u .dollar-used);
-}
+-- the marks of the object around one that closes: its own again, and `$`'s as they are now
+unfoldable pub left-use : (before : ObjectUse) → ObjectUse → ObjectUse
+left-use before u = record { self-used = before .self-used; super-used = before .super-used; dollar-used = u .dollar-used }
 
 -- "object: `OB` this-flag dollar-flag super-flag, kept locals, assertions, fields, static-flag"
 unfoldable pub object-numbers : (outermost : Bool) → ObjectUse → (kept : ℕ) → Heads → (assertions values : Exprs) → List ℕ
@@ -238,7 +234,7 @@ module _ (limits : Limits) where
       st ← analyze-values values (head-namings heads) (deeper h) st
       st ← finish-frame limits p kept before st
       let met = st .object-use
-      emit limits p OB (object-numbers outermost met kept heads assertions values) (with-object-use (left-use outermost outer-use met) st)
+      emit limits p OB (object-numbers outermost met kept heads assertions values) (with-object-use (left-use outer-use met) st)
 
     pub analyze-all : Exprs → Place → AnalysisStack → Outcome AnalysisStack
     analyze-all no-exprs h st = ok st

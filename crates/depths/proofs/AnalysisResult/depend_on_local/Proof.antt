@@ -1,0 +1,18 @@
+-- `depend_on_local` is the rules'. Assumes nothing.
+use Rattle.rules.specs.Depths.{depend-on-local}
+use borrow.Author.Needs.{needs}
+use Rattle.depths.proofs.AnalysisResult.depend_on_local.Statement.{statement}
+use Rattle.depths.proofs.AnalysisResult.depend_on_local.Tie as tie
+
+lower-requires : tie.Need-lower-requires
+lower-requires c κs = search needs
+
+higher-requires : tie.Need-higher-requires
+higher-requires c κs = search needs
+
+returns : tie.Need-returns
+unfolding depend-on-local
+returns c = cc
+
+pub depend-on-local-spec : {M : Type 1} → statement M
+depend-on-local-spec = tie.close (tie.spec lower-requires higher-requires returns)

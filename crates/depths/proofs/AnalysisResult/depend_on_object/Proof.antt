@@ -1,0 +1,15 @@
+-- `depend_on_object` is the rules'. Assumes nothing.
+use Rattle.rules.specs.Depths.{depend-on-object}
+use borrow.Author.Needs.{needs}
+use Rattle.depths.proofs.AnalysisResult.depend_on_object.Statement.{statement}
+use Rattle.depths.proofs.AnalysisResult.depend_on_object.Tie as tie
+
+lower-requires : tie.Need-lower-requires
+lower-requires c κs = search needs
+
+returns : tie.Need-returns
+unfolding depend-on-object
+returns c = cc
+
+pub depend-on-object-spec : {M : Type 1} → statement M
+depend-on-object-spec = tie.close (tie.spec lower-requires returns)

@@ -1,0 +1,50 @@
+-- `tree::head_in_range` meets its contract. Assumes nothing.
+use borrow.Author.Tests.{le-ltb, lt-ltb}
+use Rattle.rules.specs.Outcome.{choose}
+use Rattle.rules.specs.Numbers.{number-at, numbers-at}
+use Rattle.rules.specs.Records.{all-in-range, in-range, width, fields}
+use Rattle.tree.proofs.Laws.{chosen-test}
+use borrow.Author.Needs.{needs}
+use Rattle.tree.proofs.head_in_range.Statement.{statement}
+use Rattle.tree.proofs.head_in_range.Tie as tie
+
+number-at-requires : tie.Need-number-at-requires
+number-at-requires c κs = search needs
+
+returns : tie.Need-returns
+unfolding all-in-range in-range width fields numbers-at choose
+returns c = rw (le-ltb (number-at (c .before .before .before .args .bytes .now) 2) 2 (rw (c .before .number-at .ensures) at (c .if1 .taken)))
+
+number-at-requires-2 : tie.Need-number-at-requires-2
+number-at-requires-2 c κs = search needs
+
+returns-2 : tie.Need-returns-2
+unfolding all-in-range in-range width fields numbers-at choose
+returns-2 c = rw (lt-ltb (number-at (c .before .before .before .before .before .args .bytes .now) 2) 2 (rw (c .before .before .before .number-at .ensures) at (c .before .before .if1 .left)), le-ltb (number-at (c .before .before .before .before .before .args .bytes .now) 14) 2 (rw (c .before .number-at2 .ensures) at (c .if2 .taken)))
+
+number-at-requires-3 : tie.Need-number-at-requires-3
+number-at-requires-3 c κs = search needs
+
+returns-3 : tie.Need-returns-3
+unfolding all-in-range in-range width fields numbers-at choose
+returns-3 c = rw (lt-ltb (number-at (c .before .before .before .before .before .before .before .args .bytes .now) 2) 2 (rw (c .before .before .before .before .before .number-at .ensures) at (c .before .before .before .before .if1 .left)), lt-ltb (number-at (c .before .before .before .before .before .before .before .args .bytes .now) 14) 2 (rw (c .before .before .before .number-at2 .ensures) at (c .before .before .if2 .left)), le-ltb (number-at (c .before .before .before .before .before .before .before .args .bytes .now) 18) 3 (rw (c .before .number-at3 .ensures) at (c .if3 .taken)))
+
+number-at-requires-4 : tie.Need-number-at-requires-4
+number-at-requires-4 c κs = search needs
+
+returns-4 : tie.Need-returns-4
+unfolding all-in-range in-range width fields numbers-at choose
+returns-4 c = rw (lt-ltb (number-at (c .before .before .before .before .before .before .before .before .args .bytes .now) 2) 2 (rw (c .before .before .before .before .before .before .number-at .ensures) at (c .before .before .before .before .before .if1 .left)), lt-ltb (number-at (c .before .before .before .before .before .before .before .before .args .bytes .now) 14) 2 (rw (c .before .before .before .before .number-at2 .ensures) at (c .before .before .before .if2 .left)), lt-ltb (number-at (c .before .before .before .before .before .before .before .before .args .bytes .now) 18) 3 (rw (c .before .before .number-at3 .ensures) at (c .before .if3 .left)), c .number-at4 .ensures) (chosen-test _)
+
+pub head-in-range-spec : {M : Type 1} → statement M
+head-in-range-spec =
+    tie.close
+    (tie.spec
+    number-at-requires
+    returns
+    number-at-requires-2
+    returns-2
+    number-at-requires-3
+    returns-3
+    number-at-requires-4
+    returns-4)

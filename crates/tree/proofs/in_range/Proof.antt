@@ -1,0 +1,103 @@
+-- `tree::in_range` meets its contract. Assumes nothing.
+use mathlib.Core.Path.{_≡_, refl}
+use mathlib.Core.Bool.{true}
+use Rattle.rules.specs.Outcome.{choose}
+use Rattle.rules.specs.Numbers.{Mark, code}
+use Rattle.tree.specs.Marks.{mark-of, find-mark, marks}
+use Rattle.rules.specs.Numbers.{numbers-at}
+use Rattle.rules.specs.Records.{all-in-range, in-range, numbers-of, widths, width, fields}
+use Rattle.tree.proofs.Laws.{mark-all, all-none, _also_, chosen-test}
+use borrow.Author.Needs.{needs}
+use Rattle.tree.proofs.in_range.Statement.{statement}
+use Rattle.tree.proofs.in_range.Tie as tie
+
+number-at-requires : tie.Need-number-at-requires
+number-at-requires c κs = search needs
+
+number-at-requires-2 : tie.Need-number-at-requires-2
+number-at-requires-2 c κs = search needs
+
+number-at-requires-3 : tie.Need-number-at-requires-3
+number-at-requires-3 c κs = search needs
+
+number-at-requires-4 : tie.Need-number-at-requires-4
+number-at-requires-4 c κs = search needs
+
+number-at-requires-5 : tie.Need-number-at-requires-5
+number-at-requires-5 c κs = search needs
+
+number-at-requires-6 : tie.Need-number-at-requires-6
+number-at-requires-6 c κs = search needs
+
+number-at-requires-7 : tie.Need-number-at-requires-7
+number-at-requires-7 c κs = search needs
+
+number-at-requires-8 : tie.Need-number-at-requires-8
+number-at-requires-8 c κs = search needs
+
+head-in-range-requires : tie.Need-head-in-range-requires
+head-in-range-requires c κs = search needs
+
+returns : tie.Need-returns
+unfolding mark-of find-mark marks choose code all-in-range in-range numbers-of widths width fields numbers-at
+returns c = rw (c .before .match .keys1, c .number-at .ensures) (chosen-test _)
+
+returns-2 : tie.Need-returns-2
+unfolding mark-of find-mark marks choose code all-in-range in-range numbers-of widths width fields numbers-at
+returns-2 c = rw (c .before .match .keys2, c .number-at2 .ensures) (chosen-test _)
+
+returns-3 : tie.Need-returns-3
+unfolding mark-of find-mark marks choose code all-in-range in-range numbers-of widths width fields numbers-at
+returns-3 c = rw (c .before .match .keys3, c .number-at3 .ensures) (chosen-test _)
+
+returns-4 : tie.Need-returns-4
+unfolding mark-of find-mark marks choose code all-in-range in-range numbers-of widths width fields numbers-at
+returns-4 c = rw (c .before .match .keys4, c .number-at4 .ensures) (chosen-test _)
+
+returns-5 : tie.Need-returns-5
+unfolding mark-of find-mark marks choose code all-in-range in-range numbers-of widths width fields numbers-at
+returns-5 c = rw (c .before .match .keys5, c .number-at5 .ensures) (chosen-test _)
+
+returns-6 : tie.Need-returns-6
+unfolding mark-of find-mark marks choose code all-in-range in-range numbers-of widths width fields numbers-at
+returns-6 c = rw (c .before .match .keys6, c .number-at6 .ensures) (chosen-test _)
+
+returns-7 : tie.Need-returns-7
+unfolding mark-of find-mark marks choose code all-in-range in-range numbers-of widths width fields numbers-at
+returns-7 c = rw (c .before .match .keys7, c .number-at7 .ensures) (chosen-test _)
+
+returns-8 : tie.Need-returns-8
+unfolding mark-of find-mark marks choose code all-in-range in-range numbers-of widths width fields numbers-at
+returns-8 c = rw (c .before .match .keys8, c .number-at8 .ensures) (chosen-test _)
+
+returns-9 : tie.Need-returns-9
+unfolding mark-of find-mark marks choose code all-in-range in-range numbers-of widths width fields numbers-at
+returns-9 c = rw (c .before .match .keys9, c .head-in-range .ensures)
+
+returns-10 : tie.Need-returns-10
+unfolding mark-of find-mark marks choose code all-in-range in-range numbers-of widths width fields numbers-at
+returns-10 c = mark-all (λ (m : Mark). true ≡ all-in-range (fields m) (numbers-at (c .before .before .args .bytes .now) (numbers-of m) 2)) _ ((λ e. refl) also (λ e. absurd (c .match .rest .0 .0 .0 .0 .0 .0 .0 .0 .1 e)) also (λ e. refl) also (λ e. refl) also (λ e. refl) also (λ e. refl) also (λ e. refl) also (λ e. refl) also (λ e. absurd (c .match .rest .0 .0 .0 .0 .0 .0 .0 .1 e)) also (λ e. refl) also (λ e. refl) also (λ e. absurd (c .match .rest .0 .0 .0 .0 .0 .0 .1 e)) also (λ e. absurd (c .match .rest .0 .0 .0 .0 .0 .1 e)) also (λ e. refl) also (λ e. refl) also (λ e. absurd (c .match .rest .0 .0 .0 .0 .1 e)) also (λ e. absurd (c .match .rest .0 .0 .0 .1 e)) also (λ e. refl) also (λ e. refl) also (λ e. refl) also (λ e. absurd (c .match .rest .0 .0 .1 e)) also (λ e. absurd (c .match .rest .0 .1 e)) also (λ e. absurd (c .match .rest .1 e)) also (λ e. refl) also (λ e. refl) also (λ e. refl) also (λ e. refl) also (λ e. refl) also (λ e. refl) also (λ e. refl) also (λ e. refl) also (λ e. refl) also (λ e. refl) also (λ e. refl) also all-none) refl
+
+pub in-range-spec : {M : Type 1} → statement M
+in-range-spec =
+    tie.close
+    (tie.spec
+    number-at-requires
+    number-at-requires-2
+    number-at-requires-3
+    number-at-requires-4
+    number-at-requires-5
+    number-at-requires-6
+    number-at-requires-7
+    number-at-requires-8
+    head-in-range-requires
+    returns
+    returns-2
+    returns-3
+    returns-4
+    returns-5
+    returns-6
+    returns-7
+    returns-8
+    returns-9
+    returns-10)

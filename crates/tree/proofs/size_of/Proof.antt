@@ -1,0 +1,145 @@
+-- `tree::size_of` meets its contract. Assumes nothing.
+use mathlib.Core.Path.{_≡_, refl}
+use Rattle.rules.specs.Outcome.{choose}
+use Rattle.rules.specs.Numbers.{Mark, code}
+use Rattle.tree.specs.Marks.{mark-of, find-mark, marks}
+use Rattle.rules.specs.Records.{size-of, numbers-of, widths, width, fields}
+use Rattle.tree.proofs.Laws.{mark-all, all-none, _also_}
+use borrow.Author.Needs.{needs}
+use Rattle.tree.proofs.size_of.Statement.{statement}
+use Rattle.tree.proofs.size_of.Tie as tie
+
+returns : tie.Need-returns
+unfolding mark-of find-mark marks choose code size-of numbers-of widths width fields
+returns c = (rw (c .match .keys1), search needs, search needs)
+
+returns-2 : tie.Need-returns-2
+unfolding mark-of find-mark marks choose code size-of numbers-of widths width fields
+returns-2 c = (rw (c .match .keys2), search needs, search needs)
+
+returns-3 : tie.Need-returns-3
+unfolding mark-of find-mark marks choose code size-of numbers-of widths width fields
+returns-3 c = (rw (c .match .keys3), search needs, search needs)
+
+returns-4 : tie.Need-returns-4
+unfolding mark-of find-mark marks choose code size-of numbers-of widths width fields
+returns-4 c = (rw (c .match .keys4), search needs, search needs)
+
+returns-5 : tie.Need-returns-5
+unfolding mark-of find-mark marks choose code size-of numbers-of widths width fields
+returns-5 c = (rw (c .match .keys5), search needs, search needs)
+
+returns-6 : tie.Need-returns-6
+unfolding mark-of find-mark marks choose code size-of numbers-of widths width fields
+returns-6 c = (rw (c .match .keys6), search needs, search needs)
+
+returns-7 : tie.Need-returns-7
+unfolding mark-of find-mark marks choose code size-of numbers-of widths width fields
+returns-7 c = (rw (c .match .keys7), search needs, search needs)
+
+returns-8 : tie.Need-returns-8
+unfolding mark-of find-mark marks choose code size-of numbers-of widths width fields
+returns-8 c = (rw (c .match .keys8), search needs, search needs)
+
+returns-9 : tie.Need-returns-9
+unfolding mark-of find-mark marks choose code size-of numbers-of widths width fields
+returns-9 c = (rw (c .match .keys9), search needs, search needs)
+
+returns-10 : tie.Need-returns-10
+unfolding mark-of find-mark marks choose code size-of numbers-of widths width fields
+returns-10 c = (rw (c .match .keys10), search needs, search needs)
+
+returns-11 : tie.Need-returns-11
+unfolding mark-of find-mark marks choose code size-of numbers-of widths width fields
+returns-11 c = (rw (c .match .keys11), search needs, search needs)
+
+returns-12 : tie.Need-returns-12
+unfolding mark-of find-mark marks choose code size-of numbers-of widths width fields
+returns-12 c = (rw (c .match .keys12), search needs, search needs)
+
+returns-13 : tie.Need-returns-13
+unfolding mark-of find-mark marks choose code size-of numbers-of widths width fields
+returns-13 c = (rw (c .match .keys13), search needs, search needs)
+
+returns-14 : tie.Need-returns-14
+unfolding mark-of find-mark marks choose code size-of numbers-of widths width fields
+returns-14 c = (rw (c .match .keys14), search needs, search needs)
+
+returns-15 : tie.Need-returns-15
+unfolding mark-of find-mark marks choose code size-of numbers-of widths width fields
+returns-15 c = (rw (c .match .keys15), search needs, search needs)
+
+returns-16 : tie.Need-returns-16
+unfolding mark-of find-mark marks choose code size-of numbers-of widths width fields
+returns-16 c = (rw (c .match .keys16), search needs, search needs)
+
+returns-17 : tie.Need-returns-17
+unfolding mark-of find-mark marks choose code size-of numbers-of widths width fields
+returns-17 c = (rw (c .match .keys17), search needs, search needs)
+
+returns-18 : tie.Need-returns-18
+unfolding mark-of find-mark marks choose code size-of numbers-of widths width fields
+returns-18 c = (rw (c .match .keys18), search needs, search needs)
+
+returns-19 : tie.Need-returns-19
+unfolding mark-of find-mark marks choose code size-of numbers-of widths width fields
+returns-19 c = (rw (c .match .keys19), search needs, search needs)
+
+returns-20 : tie.Need-returns-20
+unfolding mark-of find-mark marks choose code size-of numbers-of widths width fields
+returns-20 c = (rw (c .match .keys20), search needs, search needs)
+
+returns-21 : tie.Need-returns-21
+unfolding mark-of find-mark marks choose code size-of numbers-of widths width fields
+returns-21 c = (rw (c .match .keys21), search needs, search needs)
+
+returns-22 : tie.Need-returns-22
+unfolding mark-of find-mark marks choose code size-of numbers-of widths width fields
+returns-22 c = (rw (c .match .keys22), search needs, search needs)
+
+returns-23 : tie.Need-returns-23
+unfolding mark-of find-mark marks choose code size-of numbers-of widths width fields
+returns-23 c = (rw (c .match .keys23), search needs, search needs)
+
+returns-24 : tie.Need-returns-24
+unfolding mark-of find-mark marks choose code size-of numbers-of widths width fields
+returns-24 c = (rw (c .match .keys24), search needs, search needs)
+
+returns-25 : tie.Need-returns-25
+unfolding mark-of find-mark marks choose code size-of numbers-of widths width fields
+returns-25 c = (rw (c .match .keys25), search needs, search needs)
+
+returns-26 : tie.Need-returns-26
+unfolding mark-of find-mark marks choose code size-of numbers-of widths width fields
+returns-26 c = (mark-all (λ (m : Mark). 2 ≡ size-of m) _ ((λ e. absurd (c .match .rest .0 .0 .0 .0 .0 .0 .0 .0 .0 .0 .0 .0 .0 .0 .0 .0 .0 .0 .0 .0 .0 .0 .0 .0 .1 e)) also (λ e. absurd (c .match .rest .0 .0 .0 .0 .0 .0 .0 .0 .0 .0 .0 .0 .0 .0 .0 .0 .0 .0 .0 .0 .0 .0 .0 .1 e)) also (λ e. absurd (c .match .rest .0 .0 .0 .0 .0 .0 .0 .0 .0 .0 .0 .0 .0 .0 .0 .0 .0 .0 .0 .0 .0 .0 .1 e)) also (λ e. absurd (c .match .rest .0 .0 .0 .0 .0 .0 .0 .0 .0 .0 .0 .0 .0 .0 .0 .0 .0 .0 .0 .0 .0 .1 e)) also (λ e. absurd (c .match .rest .0 .0 .0 .0 .0 .0 .0 .0 .0 .0 .0 .0 .0 .0 .0 .0 .0 .0 .0 .0 .1 e)) also (λ e. absurd (c .match .rest .0 .0 .0 .0 .0 .0 .0 .0 .0 .0 .0 .0 .0 .0 .0 .0 .0 .0 .0 .1 e)) also (λ e. absurd (c .match .rest .0 .0 .0 .0 .0 .0 .0 .0 .0 .0 .0 .0 .0 .0 .0 .0 .0 .0 .1 e)) also (λ e. absurd (c .match .rest .0 .0 .0 .0 .0 .0 .0 .0 .0 .0 .0 .0 .0 .0 .0 .0 .0 .1 e)) also (λ e. absurd (c .match .rest .0 .0 .0 .0 .0 .0 .0 .0 .0 .0 .0 .0 .0 .0 .0 .0 .1 e)) also (λ e. absurd (c .match .rest .0 .0 .0 .0 .0 .0 .0 .0 .0 .0 .0 .0 .0 .0 .0 .1 e)) also (λ e. absurd (c .match .rest .0 .0 .0 .0 .0 .0 .0 .0 .0 .0 .0 .0 .0 .0 .1 e)) also (λ e. absurd (c .match .rest .0 .0 .0 .0 .0 .0 .0 .0 .0 .0 .0 .0 .0 .1 e)) also (λ e. absurd (c .match .rest .0 .0 .0 .0 .0 .0 .0 .0 .0 .0 .0 .0 .1 e)) also (λ e. absurd (c .match .rest .0 .0 .0 .0 .0 .0 .0 .0 .0 .0 .0 .1 e)) also (λ e. absurd (c .match .rest .0 .0 .0 .0 .0 .0 .0 .0 .0 .0 .1 e)) also (λ e. absurd (c .match .rest .0 .0 .0 .0 .0 .0 .0 .0 .0 .1 e)) also (λ e. absurd (c .match .rest .0 .0 .0 .0 .0 .0 .0 .0 .1 e)) also (λ e. absurd (c .match .rest .0 .0 .0 .0 .0 .0 .0 .1 e)) also (λ e. absurd (c .match .rest .0 .0 .0 .0 .0 .0 .1 e)) also (λ e. absurd (c .match .rest .0 .0 .0 .0 .0 .1 e)) also (λ e. absurd (c .match .rest .0 .0 .0 .0 .1 e)) also (λ e. absurd (c .match .rest .0 .0 .0 .1 e)) also (λ e. absurd (c .match .rest .0 .0 .1 e)) also (λ e. absurd (c .match .rest .0 .1 e)) also (λ e. absurd (c .match .rest .1 e)) also (λ e. refl) also (λ e. refl) also (λ e. refl) also (λ e. refl) also (λ e. refl) also (λ e. refl) also (λ e. refl) also (λ e. refl) also (λ e. refl) also all-none) refl, search needs, search needs)
+
+pub size-of-spec : {M : Type 1} → statement M
+size-of-spec =
+    tie.close
+    (tie.spec
+    returns
+    returns-2
+    returns-3
+    returns-4
+    returns-5
+    returns-6
+    returns-7
+    returns-8
+    returns-9
+    returns-10
+    returns-11
+    returns-12
+    returns-13
+    returns-14
+    returns-15
+    returns-16
+    returns-17
+    returns-18
+    returns-19
+    returns-20
+    returns-21
+    returns-22
+    returns-23
+    returns-24
+    returns-25
+    returns-26)
