@@ -65,7 +65,7 @@ answered c = let r = run (c .lent) in record { report = report-of r; out = out-o
 -- The starred cases of document 01
 
 -- 1: local x = 1; x
-unfoldable pub one : Case
+abbrev pub one : Case
 one = accepted ample
     ((JT, 0 ∷ []) ∷ (LO, 1 ∷ []) ∷ (BV, 5 ∷ 9 ∷ []) ∷ (TV, 3 ∷ []) ∷ (VA, 5 ∷ 8 ∷ []) ∷ [])
     ((TV, 3 ∷ []) ∷ (SH, 0 ∷ 0 ∷ []) ∷ (BV, 0 ∷ []) ∷ (LS, 0 ∷ []) ∷ (SH, 1 ∷ 0 ∷ []) ∷ (LO, 1 ∷ []) ∷ (SH, 0 ∷ 0 ∷ []) ∷ [])
@@ -73,7 +73,7 @@ one = accepted ample
     false 2 never 0 0
 
 -- 2: local a = 1, b = a; b
-unfoldable pub two : Case
+abbrev pub two : Case
 two = accepted ample
     ((JT, 0 ∷ []) ∷ (LO, 2 ∷ []) ∷ (BV, 1 ∷ 11 ∷ []) ∷ (TV, 7 ∷ []) ∷ (BV, 2 ∷ 12 ∷ []) ∷ (VA, 1 ∷ 13 ∷ []) ∷ (VA, 2 ∷ 14 ∷ []) ∷ [])
     ((TV, 7 ∷ []) ∷ (SH, 0 ∷ 0 ∷ []) ∷ (BV, 0 ∷ []) ∷ (LS, 0 ∷ []) ∷ (SH, 0 ∷ 0 ∷ []) ∷ (BV, 1 ∷ []) ∷ (LS, 1 ∷ []) ∷ (SH, 2 ∷ 0 ∷ []) ∷ (LO, 2 ∷ []) ∷ (SH, 0 ∷ 0 ∷ []) ∷ [])
@@ -81,7 +81,7 @@ two = accepted ample
     false 2 never 0 0
 
 -- 2, "with b written first": local b = a, a = 1; b
-unfoldable pub two-turned : Case
+abbrev pub two-turned : Case
 two-turned = accepted ample
     ((JT, 0 ∷ []) ∷ (LO, 2 ∷ []) ∷ (BV, 2 ∷ 12 ∷ []) ∷ (VA, 1 ∷ 13 ∷ []) ∷ (BV, 1 ∷ 11 ∷ []) ∷ (TV, 7 ∷ []) ∷ (VA, 2 ∷ 14 ∷ []) ∷ [])
     ((LS, 1 ∷ []) ∷ (SH, 0 ∷ 0 ∷ []) ∷ (BV, 0 ∷ []) ∷ (TV, 7 ∷ []) ∷ (SH, 0 ∷ 0 ∷ []) ∷ (BV, 1 ∷ []) ∷ (LS, 0 ∷ []) ∷ (SH, 2 ∷ 0 ∷ []) ∷ (LO, 2 ∷ []) ∷ (SH, 0 ∷ 0 ∷ []) ∷ [])
@@ -89,7 +89,7 @@ two-turned = accepted ample
     false 3 never 0 0
 
 -- 3: local x = 1; function(y) x + y
-unfoldable pub three : Case
+abbrev pub three : Case
 three = accepted ample
     ((JT, 0 ∷ []) ∷ (LO, 1 ∷ []) ∷ (BV, 5 ∷ 9 ∷ []) ∷ (TV, 3 ∷ []) ∷ (FN, 20 ∷ 1 ∷ []) ∷ (PA, 6 ∷ 21 ∷ 0 ∷ []) ∷ (BI, 30 ∷ []) ∷ (VA, 5 ∷ 22 ∷ []) ∷ (VA, 6 ∷ 23 ∷ []) ∷ [])
     ((TV, 3 ∷ []) ∷ (SH, 0 ∷ 0 ∷ []) ∷ (BV, 0 ∷ []) ∷ (PA, 6 ∷ 0 ∷ 0 ∷ []) ∷ (CS, 0 ∷ []) ∷ (LS, 0 ∷ []) ∷ (BI, 30 ∷ []) ∷ (SH, 1 ∷ 1 ∷ 0 ∷ 0 ∷ []) ∷ (FN, 0 ∷ 0 ∷ 1 ∷ []) ∷ (SH, 1 ∷ 0 ∷ []) ∷ (LO, 1 ∷ []) ∷ (SH, 0 ∷ 0 ∷ []) ∷ [])
@@ -97,7 +97,7 @@ three = accepted ample
     false 4 never 0 1
 
 -- 4: external x, [[x]]
-unfoldable pub four : Case
+abbrev pub four : Case
 four = accepted ample
     ((JT, 1 ∷ 5 ∷ []) ∷ (AR, 1 ∷ []) ∷ (AR, 1 ∷ []) ∷ (VA, 5 ∷ 8 ∷ []) ∷ [])
     ((LS, 0 ∷ []) ∷ (SH, 0 ∷ 0 ∷ []) ∷ (AR, 1 ∷ []) ∷ (SH, 0 ∷ 0 ∷ []) ∷ (AR, 1 ∷ []) ∷ (SH, 1 ∷ 0 ∷ []) ∷ [])
@@ -105,7 +105,7 @@ four = accepted ample
     false 0 never 0 0
 
 -- 5: function(y) [x], x external
-unfoldable pub five : Case
+abbrev pub five : Case
 five = accepted ample
     ((JT, 1 ∷ 5 ∷ []) ∷ (FN, 20 ∷ 1 ∷ []) ∷ (PA, 6 ∷ 21 ∷ 0 ∷ []) ∷ (AR, 1 ∷ []) ∷ (VA, 5 ∷ 8 ∷ []) ∷ [])
     ((PA, 6 ∷ 0 ∷ 0 ∷ []) ∷ (CS, 0 ∷ []) ∷ (SH, 0 ∷ 1 ∷ 1 ∷ 0 ∷ []) ∷ (AR, 1 ∷ []) ∷ (SH, 1 ∷ 1 ∷ 0 ∷ 0 ∷ []) ∷ (FN, 0 ∷ 0 ∷ 1 ∷ []) ∷ (SH, 1 ∷ 0 ∷ []) ∷ [])
@@ -113,7 +113,7 @@ five = accepted ample
     false 2 never 0 0
 
 -- 6: local x = 1, x = 2; x
-unfoldable pub six : Case
+abbrev pub six : Case
 six = accepted ample
     ((JT, 0 ∷ []) ∷ (LO, 2 ∷ []) ∷ (BV, 5 ∷ 9 ∷ []) ∷ (TV, 1 ∷ []) ∷ (BV, 5 ∷ 10 ∷ []) ∷ (TV, 2 ∷ []) ∷ (VA, 5 ∷ 8 ∷ []) ∷ [])
     ((TV, 1 ∷ []) ∷ (SH, 0 ∷ 0 ∷ []) ∷ (BV, 0 ∷ []) ∷ (LS, 0 ∷ []) ∷ (SH, 1 ∷ 0 ∷ []) ∷ (LO, 1 ∷ []) ∷ (SH, 0 ∷ 0 ∷ []) ∷ [])
@@ -121,7 +121,7 @@ six = accepted ample
     true 2 never 0 0
 
 -- 7: function(x, x) x
-unfoldable pub seven : Case
+abbrev pub seven : Case
 seven = accepted ample
     ((JT, 0 ∷ []) ∷ (FN, 20 ∷ 2 ∷ []) ∷ (PA, 5 ∷ 21 ∷ 0 ∷ []) ∷ (PA, 5 ∷ 22 ∷ 0 ∷ []) ∷ (VA, 5 ∷ 23 ∷ []) ∷ [])
     ((IY, []) ∷ (SH, 0 ∷ 0 ∷ []) ∷ [])
@@ -129,7 +129,7 @@ seven = accepted ample
     true 2 never 0 0
 
 -- 8: {[self]: 1}
-unfoldable pub eight : Case
+abbrev pub eight : Case
 eight = accepted ample
     ((JT, 0 ∷ []) ∷ (OB, 0 ∷ 0 ∷ 1 ∷ []) ∷ (FH, 1 ∷ 0 ∷ 40 ∷ 0 ∷ 0 ∷ 0 ∷ []) ∷ (ID, 0 ∷ 41 ∷ []) ∷ (TV, 1 ∷ []) ∷ [])
     ((BL, 0 ∷ []) ∷ (FH, 1 ∷ 0 ∷ 0 ∷ 0 ∷ []) ∷ (TV, 1 ∷ []) ∷ (SH, 0 ∷ 0 ∷ []) ∷ (FV, []) ∷ (SH, 1 ∷ 0 ∷ []) ∷ (OB, 0 ∷ 0 ∷ 0 ∷ 0 ∷ 0 ∷ 1 ∷ 0 ∷ []) ∷ (SH, 0 ∷ 0 ∷ []) ∷ [])
@@ -137,7 +137,7 @@ eight = accepted ample
     true 2 never never 0
 
 -- 8: {}
-unfoldable pub eight-static : Case
+abbrev pub eight-static : Case
 eight-static = accepted ample
     ((JT, 0 ∷ []) ∷ (OB, 0 ∷ 0 ∷ 0 ∷ []) ∷ [])
     ((SH, 1 ∷ 0 ∷ []) ∷ (OB, 0 ∷ 0 ∷ 0 ∷ 0 ∷ 0 ∷ 0 ∷ 1 ∷ []) ∷ (SH, 0 ∷ 0 ∷ []) ∷ [])
@@ -145,13 +145,12 @@ eight-static = accepted ample
     false 2 never never 0
 
 -- 8: {a: 1, a: 2}
-unfoldable pub eight-twice : Case
+abbrev pub eight-twice : Case
 eight-twice = accepted ample
     ((JT, 0 ∷ []) ∷ (OB, 0 ∷ 0 ∷ 2 ∷ []) ∷ (FH, 0 ∷ 5 ∷ 40 ∷ 0 ∷ 0 ∷ 0 ∷ []) ∷ (FH, 0 ∷ 5 ∷ 41 ∷ 0 ∷ 0 ∷ 0 ∷ []) ∷ (TV, 1 ∷ []) ∷ (TV, 2 ∷ []) ∷ [])
     ((FH, 0 ∷ 5 ∷ 0 ∷ 0 ∷ []) ∷ (FH, 0 ∷ 5 ∷ 0 ∷ 0 ∷ []) ∷ (TV, 1 ∷ []) ∷ (SH, 0 ∷ 0 ∷ []) ∷ (FV, []) ∷ (TV, 2 ∷ []) ∷ (SH, 0 ∷ 0 ∷ []) ∷ (FV, []) ∷ (SH, 1 ∷ 0 ∷ []) ∷ (OB, 0 ∷ 0 ∷ 0 ∷ 0 ∷ 0 ∷ 2 ∷ 0 ∷ []) ∷ (SH, 0 ∷ 0 ∷ []) ∷ [])
     []
     false 2 never never 0
 
-unfoldable pub starred : List Case
-unfolding one two two-turned three four five six seven eight eight-static eight-twice accepted
+abbrev pub starred : List Case
 starred = one ∷ two ∷ two-turned ∷ three ∷ four ∷ five ∷ six ∷ seven ∷ eight ∷ eight-static ∷ eight-twice ∷ []
