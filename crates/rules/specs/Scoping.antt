@@ -59,7 +59,7 @@ is-kept p next st = is-at p (local-at (st .locals) (first-in-frame st + next) .s
 unfoldable pub set-analysis : (id : ℕ) → AnalysisStack → AnalysisStack
 set-analysis id st = with-locals (set (st .locals) id (with-analysis (st .taint) (local-at (st .locals) id))) st
 
--- "every value taints what encloses it, a dropped one's too"; `outer` is what that depended on before the value
+-- every value taints what encloses it, a dropped one's too (decision 21); `outer` is what that depended on before the value
 unfoldable pub taint-outer : AnalysisResult → AnalysisStack → AnalysisStack
 taint-outer outer st = with-taint (taint-by outer (st .taint)) st
 
