@@ -4,7 +4,7 @@ use vectors::container::{BY_HAND, BY_THE_RUST, Vector, pack, unpack};
 
 fn stored(name: &str) -> Vec<u8> {
     let path = format!("{}/../../vectors/{name}", env!("CARGO_MANIFEST_DIR"));
-    std::fs::read(path).expect("a stored file")
+    std::fs::read(path).expect("a stored file: `make` writes those that the repository leaves out")
 }
 
 fn answers(vectors: &[Vector]) {
