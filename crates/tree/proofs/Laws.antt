@@ -1,19 +1,19 @@
 -- Laws of marks, of the numbers of a record, and of what a record judged by its mark gives. Assumes nothing.
-use Prim.Native.Nat.{ℕ, zero, suc, _+_, _*_, _-_, _≤_, _<_}
+use Prim.Native.Nat.{ℕ, zero, suc, _+_, _-_, _≤_, _<_}
 use mathlib.Core.Bool.{Bool, true, false, not}
 use mathlib.Core.List.{List, [], _∷_}
 use mathlib.Core.Path.{_≡_, refl, sym, ap, _∙_}
 use native.Mathlib.Nat.{add-assoc}
 use native.Mathlib.Omega.{arith}
 use native.Mathlib.Decide.{decLe}
-use lib.ListN.{length, getD, take, drop, length-drop}
+use lib.ListN.{length, take, drop, length-drop}
 use lib.Seq.{getD-drop, take-all}
 use lib.Dec.{eqb, leb}
 use borrow.Author.Tests.{eqb-true, le-leb, lt-leb, leb-true, leb-false, not-true, not-false}
-use Rattle.rules.specs.Outcome.{Outcome, ok, refuse, _>>=_, need, choose}
+use Rattle.rules.specs.Outcome.{ok, refuse, _>>=_, need, choose}
 use Rattle.rules.specs.Numbers.{Mark, JT, ID, TV, VA, AR, OX, UN, BI, AS, LO, ER, IM, AP, IX, FN, IF, SC, OB, BV, BF, PA, AT, FH, NA, PT, LS, CS, SU, BL, AC, IY, FV, SH, DG}
 use Rattle.rules.specs.Numbers.{code, number-at, numbers-at, bit, is-set}
-use Rattle.rules.specs.Records.{fields, numbers-of, size-of, all-in-range, widths, width, span-width}
+use Rattle.rules.specs.Records.{fields, numbers-of, size-of, all-in-range}
 use Rattle.tree.specs.Marks.{marks, find-mark, mark-of, judged-at}
 use Rattle.rules.proofs.After.{chosen}
 
@@ -116,10 +116,13 @@ leb-minus a n l h = by (decLe a (l - n))
     by (yes le) = le-leb a (l - n) le ∙ sym (le-leb (a + n) l (omega arith))
     by (no gt) = lt-leb a (l - n) (omega arith) ∙ sym (lt-leb (a + n) l (omega arith))
 
-pub flag-set : (n : ℕ) → (n ≡ 0 → ⊥) → (1 ≡ bit (is-set n)) × (1 ≤ 1)
+pub is-set-nonzero : (n : ℕ) → (n ≡ 0 → ⊥) → is-set n ≡ true
 unfolding is-set
-flag-set zero h = absurd (h refl)
-flag-set (suc n) h = (refl, omega arith)
+is-set-nonzero zero h = absurd (h refl)
+is-set-nonzero (suc n) h = refl
+
+pub flag-set : (n : ℕ) → (n ≡ 0 → ⊥) → (1 ≡ bit (is-set n)) × (1 ≤ 1)
+flag-set n h = (ap bit (sym (is-set-nonzero n h)), omega arith)
 
 pub chosen-test : (b : Bool) → b ≡ choose b (λ _. true) (λ _. false)
 unfolding choose

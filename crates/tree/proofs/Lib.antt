@@ -2,3 +2,9 @@
 pub mod Laws
 pub mod Going
 pub mod Reading
+pub mod Binding
+pub mod Turns
+pub mod Leaves
+pub mod Definition
+pub mod Walks
+pub mod Whole

@@ -9,12 +9,12 @@ use native.Mathlib.Omega.{arith}
 use lib.ListN.{length, getD}
 use lib.Dec.{leb, eqb}
 use borrow.Author.Tests.{leb-true, eqb-true}
-use Rattle.rules.specs.Outcome.{Outcome, ok, refuse, choose, _>>=_}
+use Rattle.rules.specs.Outcome.{Outcome, ok, choose}
 use Rattle.rules.specs.Numbers.{Mark, TV, FH, PA, NA, PT, AT, code, code-at, numbers-at, number-at, is-set, bit}
-use Rattle.rules.specs.Records.{size-of, numbers-of, fields, all-in-range, widths, width}
-use Rattle.rules.specs.Tree.{Expr, Exprs, Binds, Params, Heads, Head, no-exprs, _then_, no-binds, bind, no-params, param, param-or, no-heads, fixed, computed}
-use Rattle.rules.specs.FirstWalk.{nth-span, Allowed, any-expression, function-only, object-only, Child, level, holder, Groups, Form, rows, bind-rows, only, row-of, Read, nth, allowed, front, many, none-left, record-at, constant-at, constants-at}
-use Rattle.rules.specs.FirstWalk.{expr-item, holder-at, child-at, groups-at, bind-item, param-item, head-item, below, expr-at, value-groups, value-allowed, expressions, argument, index-part, assertion, members, head-of}
+use Rattle.rules.specs.Records.{size-of, numbers-of, fields, widths, width}
+use Rattle.rules.specs.Tree.{Expr, Heads, no-exprs, no-binds, no-params, no-heads}
+use Rattle.rules.specs.FirstWalk.{Allowed, any-expression, function-only, object-only, Child, level, holder, Groups, Form, rows, bind-rows, only, row-of, Read, nth, allowed, front, many, none-left, record-at, constant-at, constants-at}
+use Rattle.rules.specs.FirstWalk.{expr-item, holder-at, child-at, groups-at, bind-item, param-item, head-item, below, expr-at, value-groups, expressions, argument, index-part, assertion, members}
 use Rattle.rules.specs.FirstWalk.{an-identity, a-constant, a-variable, an-array, an-import, a-local, a-function, an-object, parts}
 use Rattle.tree.specs.Marks.{mark-of, children, mark-at, size-at, children-at}
 use Rattle.rules.proofs.After.{After, fine, refused, after-ok, after-bind, after-need, after-choose, after-given, after-many, after-weaken, chosen, Held, there, nothing, held-some}
@@ -246,7 +246,8 @@ module _ (s : List ℕ) where
   unfolding none-left
   list-steps item nil one n p = after-weaken (many-steps 0 item (none-left nil) one (λ p. fine (steps-none s p)) n p) λ a h. rw (add-zero n) at h
 
-  only-mark : (m : Mark) {p : ℕ} {r : Read (Unit {0})} → Was s (only m) p r → r .mark ≡ m
+  -- a table of one mark gives that mark
+  pub only-mark : (m : Mark) {p : ℕ} {r : Read (Unit {0})} → Was s (only m) p r → r .mark ≡ m
   unfolding only
   only-mark m {p} was = held-some (row-held (λ r. r .0 ≡ m) (code-at s p) (only m) (_also_ {a = (m, tt)} (λ _. refl) all-none)) (was .row)
 

@@ -1,3 +1,5 @@
 -- What the contracts cite beside the rules.
 pub mod Seen
 pub mod Marks
+pub mod Places
+pub mod Left

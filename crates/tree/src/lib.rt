@@ -1,17 +1,69 @@
 // The first walk over a packed tree, and the way past one expression of an accepted tree.
 ghost use mathlib.Core.Path.{_≡_};
-ghost use Prim.Native.Nat.{ℕ, _+_, _*_, _≤_, _<_};
-ghost use lib.ListN.{length, getD};
+ghost use Prim.Native.Nat.{_+_, _*_, _≤_, _<_};
+ghost use lib.ListN.{length};
 ghost use lib.Dec.{leb};
-ghost use Rattle.rules.specs.Outcome.{Outcome, ok};
-ghost use Rattle.rules.specs.Numbers.{number-at, numbers-at, code, bit, is-set};
+ghost use Rattle.rules.specs.Numbers.{FH, numbers-at, bit, is-set};
 ghost use Rattle.rules.specs.Records.{size-of, numbers-of, fields, all-in-range};
-ghost use Rattle.rules.specs.FirstWalk.{members, expr-at};
-ghost use Rattle.tree.specs.Seen.{seen, Skipped};
+ghost use Rattle.rules.specs.FirstWalk.{members, constant-at, constants-at, any-expression, expr-at, tree-at};
+ghost use Rattle.tree.specs.Seen.{seen, past, ended, Skipped};
 ghost use Rattle.tree.specs.Marks.{mark-of, children, judged-at};
-ghost use Rattle.rules.specs.Numbers.{FH};
+ghost use Rattle.tree.specs.Places.{over, is-some, Ends, Lone, lone, expr-past, exprs-past, held-past, bind-past, value-past, values-past};
+ghost use Rattle.tree.specs.Places.{plain-past, array-past, extended-past, local-past, call-past, index-past, function-past, object-past};
+ghost use Rattle.tree.specs.Left.{Opened, Expected, Behind};
 use packed::mark_at;
 use packed::number_at;
+
+// Marks as numbers: the first letter times 256, and the second.
+pub const JT: u32 = 0x4a54;
+
+pub const ID: u32 = 0x4944;
+
+pub const TV: u32 = 0x5456;
+
+pub const VA: u32 = 0x5641;
+
+pub const AR: u32 = 0x4152;
+
+pub const OX: u32 = 0x4f58;
+
+pub const UN: u32 = 0x554e;
+
+pub const BI: u32 = 0x4249;
+
+pub const AS: u32 = 0x4153;
+
+pub const LO: u32 = 0x4c4f;
+
+pub const ER: u32 = 0x4552;
+
+pub const IM: u32 = 0x494d;
+
+pub const AP: u32 = 0x4150;
+
+pub const IX: u32 = 0x4958;
+
+pub const FN: u32 = 0x464e;
+
+pub const IF: u32 = 0x4946;
+
+pub const SC: u32 = 0x5343;
+
+pub const OB: u32 = 0x4f42;
+
+pub const BV: u32 = 0x4256;
+
+pub const BF: u32 = 0x4246;
+
+pub const PA: u32 = 0x5041;
+
+pub const AT: u32 = 0x4154;
+
+pub const FH: u32 = 0x4648;
+
+pub const NA: u32 = 0x4e41;
+
+pub const PT: u32 = 0x5054;
 
 // The place behind, or the refusal's number and place.
 pub enum Walk {
@@ -19,6 +71,7 @@ pub enum Walk {
     Refused(u32, usize),
 }
 
+// A number of a record as a count.
 fn wide(n: u32) -> usize
     ensures { λ r. ⌜ (r ≡ n) × (r < 4294967296) ⌝ }
 {
@@ -40,31 +93,31 @@ fn size_of(mark: u32) -> usize
     ensures { λ r. ⌜ (r ≡ size-of (mark-of mark)) × (2 ≤ r) × (r ≤ 26) ⌝ }
 {
     match mark {
-        0x4a54 => 6,
-        0x4944 => 10,
-        0x5456 => 6,
-        0x5641 => 10,
-        0x4152 => 6,
-        0x4f58 => 2,
-        0x554e => 6,
-        0x4249 => 6,
-        0x4153 => 6,
-        0x4c4f => 6,
-        0x4552 => 6,
-        0x494d => 18,
-        0x4150 => 18,
-        0x4958 => 6,
-        0x464e => 10,
-        0x4946 => 6,
-        0x5343 => 6,
-        0x4f42 => 14,
-        0x4256 => 10,
-        0x4246 => 10,
-        0x5041 => 14,
-        0x4154 => 6,
-        0x4648 => 26,
-        0x4e41 => 6,
-        0x5054 => 6,
+        JT => 6,
+        ID => 10,
+        TV => 6,
+        VA => 10,
+        AR => 6,
+        OX => 2,
+        UN => 6,
+        BI => 6,
+        AS => 6,
+        LO => 6,
+        ER => 6,
+        IM => 18,
+        AP => 18,
+        IX => 6,
+        FN => 10,
+        IF => 6,
+        SC => 6,
+        OB => 14,
+        BV => 10,
+        BF => 10,
+        PA => 14,
+        AT => 6,
+        FH => 26,
+        NA => 6,
+        PT => 6,
         _ => 2,
     }
 }
@@ -88,28 +141,28 @@ fn children(bytes: &[u8], mark: u32) -> usize
     ensures { λ r. ⌜ r ≡ children (mark-of mark) (numbers-at (now (bytes .entry)) (numbers-of (mark-of mark)) 2) ⌝ }
 {
     match mark {
-        0x4152 => wide(number_at(bytes, 2)),
-        0x4f58 => 2,
-        0x554e => 1,
-        0x4249 => 2,
-        0x4153 => 2 + wide(number_at(bytes, 2)),
-        0x4c4f => 1 + wide(number_at(bytes, 2)),
-        0x4552 => 1,
-        0x4150 => 1 + wide(number_at(bytes, 2)) + wide(number_at(bytes, 6)),
-        0x4958 => 1 + wide(number_at(bytes, 2)),
-        0x464e => 1 + wide(number_at(bytes, 6)),
-        0x4946 => 2 + wide(number_at(bytes, 2)),
-        0x5343 => 1 + members(number_at(bytes, 2)),
-        0x4f42 => 2 * wide(number_at(bytes, 10))
+        AR => wide(number_at(bytes, 2)),
+        OX => 2,
+        UN => 1,
+        BI => 2,
+        AS => 2 + wide(number_at(bytes, 2)),
+        LO => 1 + wide(number_at(bytes, 2)),
+        ER => 1,
+        AP => 1 + wide(number_at(bytes, 2)) + wide(number_at(bytes, 6)),
+        IX => 1 + wide(number_at(bytes, 2)),
+        FN => 1 + wide(number_at(bytes, 6)),
+        IF => 2 + wide(number_at(bytes, 2)),
+        SC => 1 + members(number_at(bytes, 2)),
+        OB => 2 * wide(number_at(bytes, 10))
             + wide(number_at(bytes, 2))
             + wide(number_at(bytes, 6)),
-        0x4256 => 1,
-        0x4246 => 1,
-        0x5041 => flag(number_at(bytes, 10)),
-        0x4154 => 1 + wide(number_at(bytes, 2)),
-        0x4648 => flag(number_at(bytes, 2)),
-        0x4e41 => 1,
-        0x5054 => 1,
+        BV => 1,
+        BF => 1,
+        PA => flag(number_at(bytes, 10)),
+        AT => 1 + wide(number_at(bytes, 2)),
+        FH => flag(number_at(bytes, 2)),
+        NA => 1,
+        PT => 1,
         _ => 0,
     }
 }
@@ -135,15 +188,15 @@ fn in_range(bytes: &[u8], mark: u32) -> bool
     ensures { λ r. ⌜ r ≡ all-in-range (fields (mark-of mark)) (numbers-at (now (bytes .entry)) (numbers-of (mark-of mark)) 2) ⌝ }
 {
     match mark {
-        0x4944 => number_at(bytes, 2) < 3,
-        0x4153 => number_at(bytes, 2) < 2,
-        0x494d => number_at(bytes, 10) < 2,
-        0x4150 => number_at(bytes, 10) < 2,
-        0x4946 => number_at(bytes, 2) < 2,
-        0x5343 => number_at(bytes, 2) < 8,
-        0x5041 => number_at(bytes, 10) < 2,
-        0x4154 => number_at(bytes, 2) < 2,
-        0x4648 => head_in_range(bytes),
+        ID => number_at(bytes, 2) < 3,
+        AS => number_at(bytes, 2) < 2,
+        IM => number_at(bytes, 10) < 2,
+        AP => number_at(bytes, 10) < 2,
+        IF => number_at(bytes, 2) < 2,
+        SC => number_at(bytes, 2) < 8,
+        PA => number_at(bytes, 10) < 2,
+        AT => number_at(bytes, 2) < 2,
+        FH => head_in_range(bytes),
         _ => true,
     }
 }
@@ -160,6 +213,59 @@ fn judged(tree: &[u8], at: usize, mark: u32) -> Walk
         return Walk::Refused(3, at);
     }
     Walk::Past(at + size)
+}
+
+// The place behind an expression's own record with this mark, where it is whole and in range and a level is left for it.
+fn opened(tree: &[u8], at: usize, nest: u32, mark: u32) -> Walk
+    ensures { λ r. ⌜ Opened (now (tree .entry)) nest mark at r ⌝ }
+{
+    let w = judged(tree, at, mark);
+    let Walk::Past(next) = w else {
+        return w;
+    };
+    if nest == 0 {
+        return Walk::Refused(4, at);
+    }
+    Walk::Past(next)
+}
+
+// The place behind the record at an offset, which must have this mark.
+fn expect(tree: &[u8], at: usize, mark: u32) -> Walk
+    ensures { λ r. ⌜ Expected (now (tree .entry)) mark at r ⌝ }
+{
+    if !has_room(tree, at, 2) {
+        return Walk::Refused(1, at);
+    }
+    if mark_at(tree, at) != mark {
+        return Walk::Refused(2, at);
+    }
+    judged(tree, at, mark)
+}
+
+// Whether a whole constant stands at an offset.
+fn constant(tree: &[u8], at: usize) -> bool
+    ensures { λ r. ⌜ r ≡ constant-at (now (tree .entry)) at ⌝ }
+{
+    if !has_room(tree, at, 6) {
+        return false;
+    }
+    mark_at(tree, at) == TV
+}
+
+// Whether n whole constants stand one behind the other; looks no further than the first record that is none.
+fn constants(tree: &[u8], at: usize, n: usize) -> bool
+    ensures { λ r. ⌜ r ≡ is-some (constants-at (now (tree .entry)) n at) ⌝ }
+{
+    let mut p = at;
+    let mut i: usize = 0;
+    while i < n {
+        if !constant(tree, p) {
+            return false;
+        }
+        p += 6;
+        i += 1;
+    }
+    true
 }
 
 // The place behind one expression of an accepted tree. Each record takes itself off those still to come and adds those directly below it.
@@ -187,4 +293,335 @@ pub fn skip(tree: &[u8], at: usize) -> usize
         p += size;
     }
     p
+}
+
+// The place behind a field's head whose name, if it is computed, was read before.
+fn after_head(tree: &[u8], at: usize) -> usize
+    requires { ⌜ at + 26 ≤ length (now tree) ⌝ }
+    ensures { λ r. ⌜ Behind (now (tree .entry)) at r ⌝ }
+{
+    if number_at(tree, at + 2) == 0 {
+        return at + 26;
+    }
+    skip(tree, at + 26)
+}
+
+// The place behind the expression at an offset, with `nest` levels left for it and what stands below it; or the first refusal.
+pub fn walk_expr(tree: &[u8], at: usize, nest: u32) -> Walk
+    ensures { λ r. ⌜ seen r ≡ past (expr-at (now (tree .entry)) nest any-expression at) ⌝ }
+{
+    if !has_room(tree, at, 2) {
+        return Walk::Refused(1, at);
+    }
+    let mark = mark_at(tree, at);
+    match mark {
+        ID => opened(tree, at, nest, mark),
+        TV => opened(tree, at, nest, mark),
+        VA => opened(tree, at, nest, mark),
+        AR => walk_array(tree, at, nest),
+        OX => walk_extended(tree, at, nest),
+        UN => walk_plain(tree, at, nest, mark),
+        BI => walk_plain(tree, at, nest, mark),
+        AS => walk_plain(tree, at, nest, mark),
+        LO => walk_local(tree, at, nest),
+        ER => walk_plain(tree, at, nest, mark),
+        IM => opened(tree, at, nest, mark),
+        AP => walk_call(tree, at, nest),
+        IX => walk_index(tree, at, nest),
+        FN => walk_function(tree, at, nest),
+        IF => walk_plain(tree, at, nest, mark),
+        SC => walk_plain(tree, at, nest, mark),
+        OB => walk_object(tree, at, nest),
+        _ => Walk::Refused(2, at),
+    }
+}
+
+// An expression that must be an `FN`, or an `OB`.
+fn walk_only(tree: &[u8], at: usize, nest: u32, mark: u32) -> Walk
+    requires { ⌜ Lone mark ⌝ }
+    ensures { λ r. ⌜ seen r ≡ expr-past (now (tree .entry)) nest (lone mark) at ⌝ }
+{
+    if !has_room(tree, at, 2) {
+        return Walk::Refused(1, at);
+    }
+    if mark_at(tree, at) != mark {
+        return Walk::Refused(2, at);
+    }
+    walk_expr(tree, at, nest)
+}
+
+// n expressions.
+fn walk_exprs(tree: &[u8], at: usize, nest: u32, n: usize) -> Walk
+    ensures { λ r. ⌜ seen r ≡ exprs-past (now (tree .entry)) nest n at ⌝ }
+{
+    let mut p = at;
+    let mut i: usize = 0;
+    while i < n {
+        let w = walk_expr(tree, p, nest);
+        match w {
+            Walk::Past(q) => {
+                p = q;
+            }
+            Walk::Refused(number, place) => {
+                return Walk::Refused(number, place);
+            }
+        }
+        i += 1;
+    }
+    Walk::Past(p)
+}
+
+// `UN`, `BI`, `AS`, `ER`, `IF` or `SC`.
+fn walk_plain(tree: &[u8], at: usize, nest: u32, mark: u32) -> Walk
+    ensures { λ r. ⌜ seen r ≡ plain-past (now (tree .entry)) nest mark at ⌝ }
+{
+    let w = opened(tree, at, nest, mark);
+    let Walk::Past(next) = w else {
+        return w;
+    };
+    let n = children(&tree[at..], mark);
+    walk_exprs(tree, next, nest - 1, n)
+}
+
+// `AR`, whose items count for no nesting where all are constants.
+fn walk_array(tree: &[u8], at: usize, nest: u32) -> Walk
+    ensures { λ r. ⌜ seen r ≡ array-past (now (tree .entry)) nest at ⌝ }
+{
+    let w = opened(tree, at, nest, AR);
+    let Walk::Past(next) = w else {
+        return w;
+    };
+    let n = wide(number_at(tree, at + 2));
+    if constants(tree, next, n) {
+        return Walk::Past(next + 6 * n);
+    }
+    walk_exprs(tree, next, nest - 1, n)
+}
+
+// `OX`: a base and an `OB`.
+fn walk_extended(tree: &[u8], at: usize, nest: u32) -> Walk
+    ensures { λ r. ⌜ seen r ≡ extended-past (now (tree .entry)) nest at ⌝ }
+{
+    let w = opened(tree, at, nest, OX);
+    let Walk::Past(next) = w else {
+        return w;
+    };
+    let b = walk_expr(tree, next, nest - 1);
+    let Walk::Past(object) = b else {
+        return b;
+    };
+    walk_only(tree, object, nest - 1, OB)
+}
+
+// `LO`: binds and a body.
+fn walk_local(tree: &[u8], at: usize, nest: u32) -> Walk
+    ensures { λ r. ⌜ seen r ≡ local-past (now (tree .entry)) nest at ⌝ }
+{
+    let w = opened(tree, at, nest, LO);
+    let Walk::Past(next) = w else {
+        return w;
+    };
+    let b = walk_binds(tree, next, nest - 1, number_at(tree, at + 2));
+    let Walk::Past(body) = b else {
+        return b;
+    };
+    walk_expr(tree, body, nest - 1)
+}
+
+// `AP`: a callee and values, then named arguments.
+fn walk_call(tree: &[u8], at: usize, nest: u32) -> Walk
+    ensures { λ r. ⌜ seen r ≡ call-past (now (tree .entry)) nest at ⌝ }
+{
+    let w = opened(tree, at, nest, AP);
+    let Walk::Past(next) = w else {
+        return w;
+    };
+    let b = walk_exprs(tree, next, nest - 1, 1 + wide(number_at(tree, at + 2)));
+    let Walk::Past(named) = b else {
+        return b;
+    };
+    walk_many(tree, named, nest - 1, number_at(tree, at + 6), NA)
+}
+
+// `IX`: a value and parts.
+fn walk_index(tree: &[u8], at: usize, nest: u32) -> Walk
+    ensures { λ r. ⌜ seen r ≡ index-past (now (tree .entry)) nest at ⌝ }
+{
+    let w = opened(tree, at, nest, IX);
+    let Walk::Past(next) = w else {
+        return w;
+    };
+    let b = walk_expr(tree, next, nest - 1);
+    let Walk::Past(parts) = b else {
+        return b;
+    };
+    walk_many(tree, parts, nest - 1, number_at(tree, at + 2), PT)
+}
+
+// `FN`: parameters and a body.
+fn walk_function(tree: &[u8], at: usize, nest: u32) -> Walk
+    ensures { λ r. ⌜ seen r ≡ function-past (now (tree .entry)) nest at ⌝ }
+{
+    let w = opened(tree, at, nest, FN);
+    let Walk::Past(next) = w else {
+        return w;
+    };
+    let b = walk_many(tree, next, nest - 1, number_at(tree, at + 6), PA);
+    let Walk::Past(body) = b else {
+        return b;
+    };
+    walk_expr(tree, body, nest - 1)
+}
+
+// `OB`: heads, binds, assertions and values.
+fn walk_object(tree: &[u8], at: usize, nest: u32) -> Walk
+    ensures { λ r. ⌜ seen r ≡ object-past (now (tree .entry)) nest at ⌝ }
+{
+    let w = opened(tree, at, nest, OB);
+    let Walk::Past(heads) = w else {
+        return w;
+    };
+    let f = number_at(tree, at + 10);
+    let b = walk_many(tree, heads, nest - 1, f, FH);
+    let Walk::Past(locals) = b else {
+        return b;
+    };
+    let l = walk_binds(tree, locals, nest - 1, number_at(tree, at + 2));
+    let Walk::Past(assertions) = l else {
+        return l;
+    };
+    let a = walk_many(tree, assertions, nest - 1, number_at(tree, at + 6), AT);
+    let Walk::Past(values) = a else {
+        return a;
+    };
+    walk_values(tree, values, nest - 1, f, heads)
+}
+
+// `PA`, `FH`, `NA`, `PT`, `AT` or `BV`, with the expressions below it.
+fn walk_held(tree: &[u8], at: usize, nest: u32, mark: u32) -> Walk
+    ensures { λ r. ⌜ seen r ≡ held-past (now (tree .entry)) nest mark at ⌝ }
+{
+    let w = expect(tree, at, mark);
+    let Walk::Past(next) = w else {
+        return w;
+    };
+    let n = children(&tree[at..], mark);
+    walk_exprs(tree, next, nest, n)
+}
+
+// n times such a record.
+fn walk_many(tree: &[u8], at: usize, nest: u32, n: u32, mark: u32) -> Walk
+    ensures { λ r. ⌜ seen r ≡ over n (held-past (now (tree .entry)) nest mark) at ⌝ }
+{
+    let mut p = at;
+    let mut i: u32 = 0;
+    while i < n {
+        let w = walk_held(tree, p, nest, mark);
+        match w {
+            Walk::Past(q) => {
+                p = q;
+            }
+            Walk::Refused(number, place) => {
+                return Walk::Refused(number, place);
+            }
+        }
+        i += 1;
+    }
+    Walk::Past(p)
+}
+
+// A bind: `BF` and an `FN`, or `BV` and a value.
+fn walk_bind(tree: &[u8], at: usize, nest: u32) -> Walk
+    ensures { λ r. ⌜ seen r ≡ bind-past (now (tree .entry)) nest at ⌝ }
+{
+    if mark_at(tree, at) != BF {
+        return walk_held(tree, at, nest, BV);
+    }
+    let w = expect(tree, at, BF);
+    let Walk::Past(next) = w else {
+        return w;
+    };
+    walk_only(tree, next, nest, FN)
+}
+
+// n binds.
+fn walk_binds(tree: &[u8], at: usize, nest: u32, n: u32) -> Walk
+    ensures { λ r. ⌜ seen r ≡ over n (bind-past (now (tree .entry)) nest) at ⌝ }
+{
+    let mut p = at;
+    let mut i: u32 = 0;
+    while i < n {
+        let w = walk_bind(tree, p, nest);
+        match w {
+            Walk::Past(q) => {
+                p = q;
+            }
+            Walk::Refused(number, place) => {
+                return Walk::Refused(number, place);
+            }
+        }
+        i += 1;
+    }
+    Walk::Past(p)
+}
+
+// The value of the field whose head stands at `head`.
+fn walk_value(tree: &[u8], at: usize, nest: u32, head: usize) -> Walk
+    requires { ⌜ head + 26 ≤ length (now tree) ⌝ }
+    ensures { λ r. ⌜ seen r ≡ value-past (now (tree .entry)) nest head at ⌝ }
+{
+    if number_at(tree, head + 22) == 0 {
+        return walk_expr(tree, at, nest);
+    }
+    walk_only(tree, at, nest, FN)
+}
+
+// The values of n fields, whose heads were read from `heads` on.
+fn walk_values(tree: &[u8], at: usize, nest: u32, n: u32, heads: usize) -> Walk
+    requires { ⌜ Ends (over n (held-past (now tree) nest 0x4648) heads) ⌝ }
+    ensures { λ r. ⌜ seen r ≡ values-past (now (tree .entry)) nest n heads at ⌝ }
+{
+    let mut p = at;
+    let mut head = heads;
+    let mut i: u32 = 0;
+    while i < n {
+        let w = walk_value(tree, p, nest, head);
+        match w {
+            Walk::Past(q) => {
+                p = q;
+            }
+            Walk::Refused(number, place) => {
+                return Walk::Refused(number, place);
+            }
+        }
+        head = after_head(tree, head);
+        i += 1;
+    }
+    Walk::Past(p)
+}
+
+// The whole tree: its end, or the first refusal in byte order.
+pub fn first_walk(tree: &[u8]) -> Walk
+    ensures { λ r. ⌜ seen r ≡ ended (length (now (tree .entry))) (tree-at (now (tree .entry))) ⌝ }
+{
+    let w = expect(tree, 0, JT);
+    let Walk::Past(names) = w else {
+        return w;
+    };
+    let n = number_at(tree, 2);
+    if 65535 < n {
+        return Walk::Refused(11, 0);
+    }
+    let root = names + 4 * wide(n);
+    if tree.len() < root {
+        return Walk::Refused(1, 0);
+    }
+    let e = walk_expr(tree, root, 200);
+    let Walk::Past(end) = e else {
+        return e;
+    };
+    if end != tree.len() {
+        return Walk::Refused(5, end);
+    }
+    Walk::Past(end)
 }

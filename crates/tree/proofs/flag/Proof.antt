@@ -1,5 +1,4 @@
 -- `tree::flag` meets its contract. Assumes nothing.
-use mathlib.Core.Path.{refl}
 use Rattle.rules.specs.Numbers.{is-set}
 use Rattle.tree.proofs.Laws.{flag-set}
 use borrow.Author.Needs.{needs}

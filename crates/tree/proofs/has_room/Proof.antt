@@ -10,7 +10,9 @@ use Rattle.tree.proofs.has_room.Statement.{statement}
 use Rattle.tree.proofs.has_room.Tie as tie
 
 returns : tie.Need-returns
-returns c = sym (lt-leb (c .before .args .at + c .before .args .n) (length (c .before .args .tree .now)) (omega arith))
+returns c =
+    let args· = c .before .args in
+    sym (lt-leb (args· .at + args· .n) (length (args· .tree .now)) (omega arith))
 
 sub-result : tie.Need-sub-result
 sub-result c = search needs

@@ -1,4 +1,4 @@
--- `tree::in_range` meets its contract. Assumes nothing.
+-- `tree::in_range` meets its contract. Each arm computes by its mark; a mark of no arm is one for which the last answer is right. Assumes nothing.
 use mathlib.Core.Path.{_≡_, refl}
 use mathlib.Core.Bool.{true}
 use Rattle.rules.specs.Outcome.{choose}
@@ -40,39 +40,57 @@ head-in-range-requires c κs = search needs
 
 returns : tie.Need-returns
 unfolding mark-of find-mark marks choose code all-in-range in-range numbers-of widths width fields numbers-at
-returns c = rw (c .before .match .keys1, c .number-at .ensures) (chosen-test _)
+returns c =
+    let key· = c .before .match .keys1 in
+    rw (key·, c .number-at .ensures) (chosen-test _)
 
 returns-2 : tie.Need-returns-2
 unfolding mark-of find-mark marks choose code all-in-range in-range numbers-of widths width fields numbers-at
-returns-2 c = rw (c .before .match .keys2, c .number-at2 .ensures) (chosen-test _)
+returns-2 c =
+    let key· = c .before .match .keys2 in
+    rw (key·, c .number-at2 .ensures) (chosen-test _)
 
 returns-3 : tie.Need-returns-3
 unfolding mark-of find-mark marks choose code all-in-range in-range numbers-of widths width fields numbers-at
-returns-3 c = rw (c .before .match .keys3, c .number-at3 .ensures) (chosen-test _)
+returns-3 c =
+    let key· = c .before .match .keys3 in
+    rw (key·, c .number-at3 .ensures) (chosen-test _)
 
 returns-4 : tie.Need-returns-4
 unfolding mark-of find-mark marks choose code all-in-range in-range numbers-of widths width fields numbers-at
-returns-4 c = rw (c .before .match .keys4, c .number-at4 .ensures) (chosen-test _)
+returns-4 c =
+    let key· = c .before .match .keys4 in
+    rw (key·, c .number-at4 .ensures) (chosen-test _)
 
 returns-5 : tie.Need-returns-5
 unfolding mark-of find-mark marks choose code all-in-range in-range numbers-of widths width fields numbers-at
-returns-5 c = rw (c .before .match .keys5, c .number-at5 .ensures) (chosen-test _)
+returns-5 c =
+    let key· = c .before .match .keys5 in
+    rw (key·, c .number-at5 .ensures) (chosen-test _)
 
 returns-6 : tie.Need-returns-6
 unfolding mark-of find-mark marks choose code all-in-range in-range numbers-of widths width fields numbers-at
-returns-6 c = rw (c .before .match .keys6, c .number-at6 .ensures) (chosen-test _)
+returns-6 c =
+    let key· = c .before .match .keys6 in
+    rw (key·, c .number-at6 .ensures) (chosen-test _)
 
 returns-7 : tie.Need-returns-7
 unfolding mark-of find-mark marks choose code all-in-range in-range numbers-of widths width fields numbers-at
-returns-7 c = rw (c .before .match .keys7, c .number-at7 .ensures) (chosen-test _)
+returns-7 c =
+    let key· = c .before .match .keys7 in
+    rw (key·, c .number-at7 .ensures) (chosen-test _)
 
 returns-8 : tie.Need-returns-8
 unfolding mark-of find-mark marks choose code all-in-range in-range numbers-of widths width fields numbers-at
-returns-8 c = rw (c .before .match .keys8, c .number-at8 .ensures) (chosen-test _)
+returns-8 c =
+    let key· = c .before .match .keys8 in
+    rw (key·, c .number-at8 .ensures) (chosen-test _)
 
 returns-9 : tie.Need-returns-9
 unfolding mark-of find-mark marks choose code all-in-range in-range numbers-of widths width fields numbers-at
-returns-9 c = rw (c .before .match .keys9, c .head-in-range .ensures)
+returns-9 c =
+    let key· = c .before .match .keys9 in
+    rw (key·, c .head-in-range .ensures)
 
 returns-10 : tie.Need-returns-10
 unfolding mark-of find-mark marks choose code all-in-range in-range numbers-of widths width fields numbers-at

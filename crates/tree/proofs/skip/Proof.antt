@@ -1,4 +1,4 @@
--- `tree::skip` meets its contract. Assumes nothing.
+-- `tree::skip` meets its contract. The loop's invariant: wherever one record from `at` on ends, the records still to come end there too. The measure is what is left of the tree. Assumes nothing.
 use Prim.Native.Nat.{ℕ, _-_}
 use lib.ListN.{length}
 use Rattle.tree.proofs.Laws.{room-there, room-missing}
@@ -28,46 +28,120 @@ has-room-requires : tie.Need-has-room-requires Inv-loop μ-loop
 has-room-requires c κs = search needs
 
 returns : tie.Need-returns Inv-loop μ-loop
-returns c = λ levels allowed e q h. skip-stuck (c .before .before .before .before .before .before .before .args .tree .now) (c .before .before .before .before .before .loop .p) (c .before .before .before .before .before .loop .left) q (c .before .before .before .before .before .loop .inv q (reads (c .before .before .before .before .before .before .before .args .tree .now) levels allowed e q h)) (c .before .before .before .before .loop-test .taken) (rw (size-seen (c .before .before .before .before .before .before .before .args .tree .now) (c .before .before .before .before .before .loop .p) (c .before .before .before .mark-at .result) (c .before .before .size-of .result) (c .before .before .before .mark-at .ensures .0) (c .before .before .size-of .ensures .0)) at (room-missing (c .before .before .before .before .before .loop .p) (c .before .before .size-of .result) (length (c .before .before .before .before .before .before .before .args .tree .now)) _ (c .before .has-room .ensures) (c .if1 .taken)))
+returns c =
+    let args· = c .before .before .before .before .before .before .before .args in
+    let loop· = c .before .before .before .before .before .loop in
+    let loop-test· = c .before .before .before .before .loop-test in
+    let mark-at· = c .before .before .before .mark-at in
+    let size-of· = c .before .before .size-of in
+    let has-room· = c .before .has-room in
+    let if1· = c .if1 in
+    λ levels allowed e q h. skip-stuck (args· .tree .now) (loop· .p) (loop· .left) q (loop· .inv q (reads (args· .tree .now) levels allowed e q h)) (loop-test· .taken) (rw (size-seen (args· .tree .now) (loop· .p) (mark-at· .result) (size-of· .result) (mark-at· .ensures .0) (size-of· .ensures .0)) at (room-missing (loop· .p) (size-of· .result) (length (args· .tree .now)) _ (has-room· .ensures) (if1· .taken)))
 
 sub-room : tie.Need-sub-room Inv-loop μ-loop
-sub-room c = omega (arith, room-there (c .before .before .before .before .before .loop .p) (c .before .before .size-of .result) (length (c .before .before .before .before .before .before .before .args .tree .now)) _ (c .before .has-room .ensures) (c .if1 .left), c .before .before .size-of .ensures .1)
+sub-room c =
+    let loop· = c .before .before .before .before .before .loop in
+    let size-of· = c .before .before .size-of in
+    let args· = c .before .before .before .before .before .before .before .args in
+    let has-room· = c .before .has-room in
+    let if1· = c .if1 in
+    omega (arith, room-there (loop· .p) (size-of· .result) (length (args· .tree .now)) _ (has-room· .ensures) (if1· .left), size-of· .ensures .1)
 
 sub-children : tie.Need-sub-children Inv-loop μ-loop
-sub-children c = omega (arith, room-there (c .before .before .before .before .before .loop .p) (c .before .before .size-of .result) (length (c .before .before .before .before .before .before .before .args .tree .now)) _ (c .before .has-room .ensures) (c .if1 .left), c .before .before .size-of .ensures .1)
+sub-children c =
+    let loop· = c .before .before .before .before .before .loop in
+    let size-of· = c .before .before .size-of in
+    let args· = c .before .before .before .before .before .before .before .args in
+    let has-room· = c .before .has-room in
+    let if1· = c .if1 in
+    omega (arith, room-there (loop· .p) (size-of· .result) (length (args· .tree .now)) _ (has-room· .ensures) (if1· .left), size-of· .ensures .1)
 
 part-children-start : tie.Need-part-children-start Inv-loop μ-loop
-part-children-start c = omega (arith, room-there (c .before .before .before .before .before .loop .p) (c .before .before .size-of .result) (length (c .before .before .before .before .before .before .before .args .tree .now)) _ (c .before .has-room .ensures) (c .if1 .left), c .before .before .size-of .ensures .1)
+part-children-start c =
+    let loop· = c .before .before .before .before .before .loop in
+    let size-of· = c .before .before .size-of in
+    let args· = c .before .before .before .before .before .before .before .args in
+    let has-room· = c .before .has-room in
+    let if1· = c .if1 in
+    omega (arith, room-there (loop· .p) (size-of· .result) (length (args· .tree .now)) _ (has-room· .ensures) (if1· .left), size-of· .ensures .1)
 
 part-children-end : tie.Need-part-children-end Inv-loop μ-loop
-part-children-end c = omega (arith, room-there (c .before .before .before .before .before .loop .p) (c .before .before .size-of .result) (length (c .before .before .before .before .before .before .before .args .tree .now)) _ (c .before .has-room .ensures) (c .if1 .left), c .before .before .size-of .ensures .1)
+part-children-end c =
+    let loop· = c .before .before .before .before .before .loop in
+    let size-of· = c .before .before .size-of in
+    let args· = c .before .before .before .before .before .before .before .args in
+    let has-room· = c .before .has-room in
+    let if1· = c .if1 in
+    omega (arith, room-there (loop· .p) (size-of· .result) (length (args· .tree .now)) _ (has-room· .ensures) (if1· .left), size-of· .ensures .1)
 
 children-requires : tie.Need-children-requires Inv-loop μ-loop
 children-requires c κs = search needs
 
 returns-2 : tie.Need-returns-2 Inv-loop μ-loop
-returns-2 c = λ levels allowed e q h. skip-crowded (c .before .before .before .before .before .before .before .before .before .before .args .tree .now) (c .before .before .before .before .before .before .before .before .loop .p) (c .before .before .before .before .before .before .before .before .loop .left) q (c .before .before .before .before .before .before .before .before .loop .inv q (reads (c .before .before .before .before .before .before .before .before .before .before .args .tree .now) levels allowed e q h)) (c .before .before .before .before .before .before .before .loop-test .taken) (c .if2 .taken)
+returns-2 c =
+    let args· = c .before .before .before .before .before .before .before .before .before .before .args in
+    let loop· = c .before .before .before .before .before .before .before .before .loop in
+    let loop-test· = c .before .before .before .before .before .before .before .loop-test in
+    let if2· = c .if2 in
+    λ levels allowed e q h. skip-crowded (args· .tree .now) (loop· .p) (loop· .left) q (loop· .inv q (reads (args· .tree .now) levels allowed e q h)) (loop-test· .taken) (if2· .taken)
 
 returns-3 : tie.Need-returns-3 Inv-loop μ-loop
-returns-3 c = λ levels allowed e q h. skip-over (c .before .before .before .before .before .before .before .before .before .before .before .args .tree .now) (c .before .before .before .before .before .before .before .before .before .loop .p) (c .before .before .before .before .before .before .before .before .before .loop .left) q (c .before .before .before .before .before .before .before .before .before .loop .inv q (reads (c .before .before .before .before .before .before .before .before .before .before .before .args .tree .now) levels allowed e q h)) (c .before .before .before .before .before .before .before .before .loop-test .taken) (c .before .if2 .left) (rw (children-seen (c .before .before .before .before .before .before .before .before .before .before .before .args .tree .now) (c .before .before .before .before .before .before .before .before .before .loop .p) (c .before .before .before .before .before .before .before .mark-at .result) (c .before .before .children .result) (c .before .before .before .before .before .before .before .mark-at .ensures .0) (c .before .before .children .ensures)) at (c .if3 .taken))
+returns-3 c =
+    let args· = c .before .before .before .before .before .before .before .before .before .before .before .args in
+    let loop· = c .before .before .before .before .before .before .before .before .before .loop in
+    let loop-test· = c .before .before .before .before .before .before .before .before .loop-test in
+    let if2· = c .before .if2 in
+    let mark-at· = c .before .before .before .before .before .before .before .mark-at in
+    let children· = c .before .before .children in
+    let if3· = c .if3 in
+    λ levels allowed e q h. skip-over (args· .tree .now) (loop· .p) (loop· .left) q (loop· .inv q (reads (args· .tree .now) levels allowed e q h)) (loop-test· .taken) (if2· .left) (rw (children-seen (args· .tree .now) (loop· .p) (mark-at· .result) (children· .result) (mark-at· .ensures .0) (children· .ensures)) at (if3· .taken))
 
 sub-left : tie.Need-sub-left Inv-loop μ-loop
-sub-left c = omega (arith, c .before .before .before .before .before .before .before .before .loop-test .taken)
+sub-left c =
+    let loop-test· = c .before .before .before .before .before .before .before .before .loop-test in
+    omega (arith, loop-test· .taken)
 
 add-left : tie.Need-add-left Inv-loop μ-loop
-add-left c = omega (arith, c .before .before .before .before .before .before .before .before .loop-test .taken, c .before .if2 .left, c .if3 .left)
+add-left c =
+    let loop-test· = c .before .before .before .before .before .before .before .before .loop-test in
+    let if2· = c .before .if2 in
+    let if3· = c .if3 in
+    omega (arith, loop-test· .taken, if2· .left, if3· .left)
 
 add-p : tie.Need-add-p Inv-loop μ-loop
-add-p c = omega (arith, room-there (c .before .before .before .before .before .before .before .before .before .loop .p) (c .before .before .before .before .before .before .size-of .result) (length (c .before .before .before .before .before .before .before .before .before .before .before .args .tree .now)) _ (c .before .before .before .before .before .has-room .ensures) (c .before .before .before .before .if1 .left), c .before .before .before .before .before .before .size-of .ensures .1)
+add-p c =
+    let loop· = c .before .before .before .before .before .before .before .before .before .loop in
+    let size-of· = c .before .before .before .before .before .before .size-of in
+    let args· = c .before .before .before .before .before .before .before .before .before .before .before .args in
+    let has-room· = c .before .before .before .before .before .has-room in
+    let if1· = c .before .before .before .before .if1 in
+    omega (arith, room-there (loop· .p) (size-of· .result) (length (args· .tree .now)) _ (has-room· .ensures) (if1· .left), size-of· .ensures .1)
 
 loop-less : tie.Need-loop-less Inv-loop μ-loop
-loop-less c = omega (arith, room-there (c .before .before .before .before .before .before .before .before .before .loop .p) (c .before .before .before .before .before .before .size-of .result) (length (c .before .before .before .before .before .before .before .before .before .before .before .args .tree .now)) _ (c .before .before .before .before .before .has-room .ensures) (c .before .before .before .before .if1 .left), c .before .before .before .before .before .before .size-of .ensures .1)
+loop-less c =
+    let loop· = c .before .before .before .before .before .before .before .before .before .loop in
+    let size-of· = c .before .before .before .before .before .before .size-of in
+    let args· = c .before .before .before .before .before .before .before .before .before .before .before .args in
+    let has-room· = c .before .before .before .before .before .has-room in
+    let if1· = c .before .before .before .before .if1 in
+    omega (arith, room-there (loop· .p) (size-of· .result) (length (args· .tree .now)) _ (has-room· .ensures) (if1· .left), size-of· .ensures .1)
 
 loop-again : tie.Need-loop-again Inv-loop μ-loop
-loop-again c = λ q g. rw ((size-seen (c .before .before .before .before .before .before .before .before .before .before .before .args .tree .now) (c .before .before .before .before .before .before .before .before .before .loop .p) (c .before .before .before .before .before .before .before .mark-at .result) (c .before .before .before .before .before .before .size-of .result) (c .before .before .before .before .before .before .before .mark-at .ensures .0) (c .before .before .before .before .before .before .size-of .ensures .0)), (children-seen (c .before .before .before .before .before .before .before .before .before .before .before .args .tree .now) (c .before .before .before .before .before .before .before .before .before .loop .p) (c .before .before .before .before .before .before .before .mark-at .result) (c .before .before .children .result) (c .before .before .before .before .before .before .before .mark-at .ensures .0) (c .before .before .children .ensures))) (skip-next (c .before .before .before .before .before .before .before .before .before .before .before .args .tree .now) (c .before .before .before .before .before .before .before .before .before .loop .p) (c .before .before .before .before .before .before .before .before .before .loop .left) q (c .before .before .before .before .before .before .before .before .before .loop .inv q g) (c .before .before .before .before .before .before .before .before .loop-test .taken))
+loop-again c =
+    let args· = c .before .before .before .before .before .before .before .before .before .before .before .args in
+    let loop· = c .before .before .before .before .before .before .before .before .before .loop in
+    let mark-at· = c .before .before .before .before .before .before .before .mark-at in
+    let size-of· = c .before .before .before .before .before .before .size-of in
+    let children· = c .before .before .children in
+    let loop-test· = c .before .before .before .before .before .before .before .before .loop-test in
+    λ q g. rw ((size-seen (args· .tree .now) (loop· .p) (mark-at· .result) (size-of· .result) (mark-at· .ensures .0) (size-of· .ensures .0)), (children-seen (args· .tree .now) (loop· .p) (mark-at· .result) (children· .result) (mark-at· .ensures .0) (children· .ensures))) (skip-next (args· .tree .now) (loop· .p) (loop· .left) q (loop· .inv q g) (loop-test· .taken))
 
 returns-4 : tie.Need-returns-4 Inv-loop μ-loop
-returns-4 c = λ levels allowed e q h. skip-end (c .before .before .before .args .tree .now) (c .before .loop .p) (c .before .loop .left) q (c .before .loop .inv q (reads (c .before .before .before .args .tree .now) levels allowed e q h)) (c .loop-test .left)
+returns-4 c =
+    let args· = c .before .before .before .args in
+    let loop· = c .before .loop in
+    let loop-test· = c .loop-test in
+    λ levels allowed e q h. skip-end (args· .tree .now) (loop· .p) (loop· .left) q (loop· .inv q (reads (args· .tree .now) levels allowed e q h)) (loop-test· .left)
 
 pub skip-spec : {M : Type 1} → statement M
 skip-spec =

@@ -1,0 +1,31 @@
+-- `put_frame` stores a frame, and no other entry changes. Assumes nothing.
+use mathlib.Core.Path.{sym, ap, _∙_}
+use mathlib.Core.Logic.{⊎-elim}
+use lib.Dec.{eqb}
+use borrow.Author.Needs.{needs}
+use Rattle.frames.proofs.put_frame.Statement.{statement}
+use Rattle.frames.proofs.put_frame.Tie as tie
+
+put-entry-requires : tie.Need-put-entry-requires
+put-entry-requires c κs = search needs
+
+same-length : tie.Need-same-length
+same-length c = search needs
+
+returns : tie.Need-returns
+returns c =
+    let if1 = c .before .before .before .before .if1 in
+    let put-entry = c .before .before .put-entry in (
+      record {
+        defining = ⊎-elim
+            (λ w. w .0 .taken ∙ sym (ap (λ n. eqb n 1) (put-entry .ensures .n0 ∙ w .1)))
+            (λ w. w .0 .left ∙ sym (ap (λ n. eqb n 1) (put-entry .ensures .n0 ∙ w .1))) (if1 .came);
+        first = sym (put-entry .ensures .n1);
+        locals = sym (put-entry .ensures .n2);
+        from = sym (put-entry .ensures .n3);
+      },
+      put-entry .ensures .rest,
+    )
+
+pub put-frame-spec : {M : Type 1} → statement M
+put-frame-spec = tie.close (tie.spec put-entry-requires same-length returns)

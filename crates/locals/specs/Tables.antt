@@ -1,0 +1,37 @@
+-- What storing a local, and keeping a spec's references, leave of the tables. Assumes nothing.
+use Prim.Native.Nat.{ℕ, _≤_, _<_}
+use mathlib.Core.List.{List, _++_, map}
+use mathlib.Core.Path.{_≡_}
+use lib.ListN.{length, set, take, drop}
+use Rattle.rules.specs.Locals.{LocalDefinition, noted, without-notes}
+use Rattle.rules.specs.Settling.{Reference}
+use Rattle.tables.specs.Rows.{row}
+use Rattle.locals.specs.Meaning.{locals-of, reference, references-of}
+use Rattle.locals.specs.declared.Kept.{Kept}
+use Rattle.locals.specs.declared.Kept.the-variants.{To, NoRoom}
+
+-- the entry id holds this local, and the others what they held
+pub record PutLocal (before after : List ℕ) (id : ℕ) (l : LocalDefinition) : Type 0 where
+  pub size : length after ≡ length before
+  pub held : (n : ℕ) → id < n → locals-of n after ≡ set (locals-of n before) id l
+  pub below : (n : ℕ) → n ≤ id → locals-of n after ≡ locals-of n before
+  pub others : (k : ℕ) → (k ≡ id → ⊥) → row k after ≡ row k before
+
+-- the references with those that the user has noted among the locals from `first` on
+unfoldable pub with-noted : (user first : ℕ) → List LocalDefinition → List Reference → List Reference
+with-noted user first ls refs = refs ++ map (reference user) (noted first (drop first ls))
+
+-- the locals with no notes from `first` on
+unfoldable pub cleared : (first : ℕ) → List LocalDefinition → List LocalDefinition
+cleared first ls = take first ls ++ without-notes (drop first ls)
+
+-- all are kept, within the limit, and their notes cleared
+pub record AllKept (locals locals′ references references′ : List ℕ) (user first total kept limit count : ℕ) : Type 0 where
+  pub fits : count ≤ limit
+  pub references-are : references-of count references′ ≡ with-noted user first (locals-of total locals) (references-of kept references)
+  pub locals-are : locals-of total locals′ ≡ cleared first (locals-of total locals)
+
+-- they are, or they would pass the limit
+abbrev pub Keeps : Kept → (locals locals′ references references′ : List ℕ) → (user first total kept limit : ℕ) → Type 0
+Keeps (To count) locals locals′ references references′ user first total kept limit = AllKept locals locals′ references references′ user first total kept limit count
+Keeps NoRoom locals locals′ references references′ user first total kept limit = limit < length (with-noted user first (locals-of total locals) (references-of kept references))

@@ -1,0 +1,80 @@
+-- What the state and the six buffers mean: the rules' state. And what is kept of them between steps. Assumes nothing.
+use Prim.Native.Nat.{ℕ, _+_, _*_, _≤_, _<_}
+use mathlib.Core.List.{List}
+use lib.ListN.{length, take}
+use Rattle.rules.specs.Outcome.{Outcome, ok, refuse}
+use Rattle.rules.specs.State as rules
+use Rattle.depths.specs.Meaning.{result}
+use Rattle.locals.specs.Meaning.{locals-of, references-of}
+use Rattle.frames.specs.Meaning.{number, frames-of}
+use Rattle.frames.specs.Kept.{Kept}
+use Rattle.state.specs.declared.AnalysisStack.{AnalysisStack}
+use Rattle.state.specs.declared.Limits.{Limits}
+use Rattle.state.specs.declared.Step.{Step}
+use Rattle.state.specs.declared.Step.the-variants.{Ok, Refused}
+
+-- the contents of the six buffers that are written to
+pub record Buffers : Type 0 where
+  pub out : List ℕ
+  pub diagnostics : List ℕ
+  pub locals : List ℕ
+  pub frames : List ℕ
+  pub captures : List ℕ
+  pub references : List ℕ
+
+abbrev pub buffers : (out diagnostics locals frames captures references : List ℕ) → Buffers
+buffers out diagnostics locals frames captures references =
+    record { out = out; diagnostics = diagnostics; locals = locals; frames = frames; captures = captures; references = references }
+
+-- the rules' state that they hold
+unfoldable pub stack : Buffers → AnalysisStack → rules.AnalysisStack
+stack b st = record {
+  locals = locals-of (st .locals) (b .locals);
+  frames = frames-of (st .frames) (b .frames) (st .captures) (b .captures);
+  references = references-of (st .references) (b .references);
+  object-use = record { self-used = st .«self_used»; super-used = st .«super_used»; dollar-used = st .«dollar_used» };
+  taint = result (st .taint);
+  sink = record {
+    out = take (st .out) (b .out);
+    diagnostics = take (st .diagnostics) (b .diagnostics);
+    errored = st .errored;
+    rounds = st .rounds;
+  };
+}
+
+-- what a step's answer means over the buffers that it leaves
+abbrev pub seen : Step → Buffers → Outcome rules.AnalysisStack
+seen (Ok st) b = ok (stack b st)
+seen (Refused number place) b = refuse number place
+
+-- the rules' limits, with the lengths of both byte buffers
+unfoldable pub limits-of : Limits → (out diagnostics : List ℕ) → rules.Limits
+limits-of l out diagnostics = record {
+  locals = l .«max_locals»;
+  frames = l .«max_frames»;
+  captures = l .«max_captures»;
+  references = l .«max_references»;
+  out = length out;
+  diagnostics = length diagnostics;
+}
+
+-- the tables hold their limits' entries and the counts are within them; a frame's first local is there, and rises from frame to frame
+pub record Fit (l : Limits) (b : Buffers) (st : AnalysisStack) : Type 0 where
+  pub locals-long : 16 * l .«max_locals» ≤ length (b .locals)
+  pub frames-long : 16 * l .«max_frames» ≤ length (b .frames)
+  pub captures-long : 16 * l .«max_captures» ≤ length (b .captures)
+  pub references-long : 16 * l .«max_references» ≤ length (b .references)
+  pub few-locals : st .locals ≤ l .«max_locals»
+  pub few-frames : st .frames ≤ l .«max_frames»
+  pub few-captures : st .captures ≤ l .«max_captures»
+  pub few-references : st .references ≤ l .«max_references»
+  pub out-long : st .out ≤ length (b .out)
+  pub diagnostics-long : st .diagnostics ≤ length (b .diagnostics)
+  pub frames-kept : Kept (st .frames) (b .frames) (st .captures) (b .captures)
+  pub first-there : (f : ℕ) → f < st .frames → number (b .frames) f 1 ≤ st .locals
+  pub first-rises : (f g : ℕ) → f < g → g < st .frames → number (b .frames) f 1 ≤ number (b .frames) g 1
+
+-- an answer's state fits the buffers that it leaves; a refusal's need not, because the caller clears them
+abbrev pub Fits : Limits → Step → Buffers → Type 0
+Fits l (Ok st) b = Fit l b st
+Fits l (Refused number place) b = Unit {0}
