@@ -185,7 +185,7 @@ fn resolve(home: Frame, id: u32) -> Held
 }
 
 // The owner's capture of an id, where it has one; none of its captures stands before `from`.
-pub fn capture_of(captures: &[u32], from: u32, count: u32, owner: u32, id: u32) -> Found
+fn capture_of(captures: &[u32], from: u32, count: u32, owner: u32, id: u32) -> Found
     requires { ⌜ (16 * count ≤ length (now captures)) × (from ≤ count) × (captures-of owner from (now captures) ≡ []) ⌝ }
     ensures { λ r. ⌜ Searched r (now (captures .entry)) owner count id ⌝ }
 {
@@ -285,7 +285,7 @@ fn capture(
 }
 
 // An id resolved in the top of the first n frames.
-pub fn resolve_at(
+fn resolve_at(
     frames: &[u32],
     captures: &mut [u32],
     n: u32,

@@ -1,0 +1,4 @@
+-- What the proofs of several functions use.
+pub mod Finding
+pub mod Defining
+pub mod Using

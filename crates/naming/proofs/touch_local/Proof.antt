@@ -1,0 +1,38 @@
+-- `touch_local` is the rules'. Assumes nothing.
+use Rattle.naming.proofs.Using.{touched}
+use borrow.Author.Needs.{needs}
+use Rattle.naming.proofs.touch_local.Statement.{statement}
+use Rattle.naming.proofs.touch_local.Tie as tie
+
+local-at-requires : tie.Need-local-at-requires
+local-at-requires c κs = search needs
+
+use-at-requires : tie.Need-use-at-requires
+use-at-requires c κs = search needs
+
+note-reference-requires : tie.Need-note-reference-requires
+note-reference-requires c κs = search needs
+
+put-local-requires : tie.Need-put-local-requires
+put-local-requires c κs = search needs
+
+taint-by-local-requires : tie.Need-taint-by-local-requires
+taint-by-local-requires c κs = search needs
+
+same-length : tie.Need-same-length
+same-length c = search needs
+
+returns : tie.Need-returns
+returns c = touched _ _ _ (c .before .before .before .before .before .before .before .before .local-at .result) (c .before .before .before .before .before .before .before .before .before .before .before .pre .1) (c .before .before .before .before .before .before .before .before .local-at .ensures) (c .before .before .before .before .before .before .before .use-at .result) _ _ (c .before .before .before .before .put-local .ensures) (c .before .before .before .before .before .note-reference .ensures) (c .before .before .before .before .before .before .before .use-at .ensures) (c .taint-by-local .ensures)
+
+pub touch-local-spec : {M : Type 1} → statement M
+touch-local-spec =
+    tie.close
+    (tie.spec
+    local-at-requires
+    use-at-requires
+    note-reference-requires
+    put-local-requires
+    taint-by-local-requires
+    same-length
+    returns)

@@ -1,0 +1,294 @@
+// Steps on a frame's names over the state and the lent tables: finding, defining, using, keeping a spec.
+ghost use mathlib.Core.Path.{_≡_};
+ghost use Prim.Native.Nat.{ℕ, _+_, _*_, _-_, _<_, _≤_};
+ghost use lib.ListN.{length};
+ghost use Rattle.rules.specs.Scoping.{is-at, could-be-hoisted};
+ghost use Rattle.rules.specs.Tree.{at-record};
+ghost use Rattle.rules.specs.Locals.{new-local};
+ghost use Rattle.locals.specs.Meaning.{local, named, binding};
+ghost use Rattle.depths.specs.Meaning.{result};
+ghost use Rattle.frames.specs.Meaning.{number};
+ghost use Rattle.naming.specs.Answers.{FirstInFrame, IsTaken, IsKept, CountedLocal, PushedLocal, PushedInFrame, DefinedNew, DefinedThis, TouchedLocal, TouchedObject, SetAnalysis, KeptReferences, tainted-by-local, span-of};
+use depths::AnalysisResult;
+use frames::frame_at;
+use frames::put_frame;
+use locals::Found;
+use locals::Kept;
+use locals::LocalDefinition;
+use locals::LocalId;
+use locals::local_at;
+use locals::newest;
+use locals::note_reference;
+use locals::put_local;
+use locals::use_at;
+use locals::with_analysis;
+use state::AnalysisStack;
+use state::Limits;
+use state::Step;
+
+// The id of the first local of the frame on top.
+pub fn first_in_frame(frames: &[u32], st: AnalysisStack) -> u32
+    requires { ⌜ 16 * st .frames ≤ length (now frames) ⌝ }
+    ensures { λ r. ⌜ FirstInFrame r (now (frames .entry)) st ⌝ }
+{
+    let n = st.frames;
+    if n == 0 {
+        return 0;
+    }
+    let top = frame_at(frames, n - 1);
+    top.first_local
+}
+
+// Whether the frame on top has defined the name.
+pub fn is_taken(locals: &[u32], frames: &[u32], st: AnalysisStack, name: u32) -> bool
+    requires { ⌜ (16 * st .locals ≤ length (now locals)) × (16 * st .frames ≤ length (now frames)) × ((f : ℕ) → f < st .frames → number (now frames) f 1 ≤ st .locals) ⌝ }
+    ensures { λ r. ⌜ IsTaken r (now (locals .entry)) (now (frames .entry)) st name ⌝ }
+{
+    let first = first_in_frame(frames, st);
+    let n = st.locals - first;
+    let found = newest(locals, name, first as usize, n as usize);
+    match found {
+        Found::At(_) => true,
+        Found::Nothing => false,
+    }
+}
+
+// A local behind the others, where L allows.
+pub fn push_local(
+    locals: &mut [u32],
+    limits: Limits,
+    st: AnalysisStack,
+    place: usize,
+    l: LocalDefinition,
+) -> Step
+    requires { ⌜ 16 * limits .«max_locals» ≤ length (now locals) ⌝ }
+    ensures { λ r. ⌜ PushedLocal r (now (locals .entry)) (now (locals .exit)) limits st place l ⌝ }
+{
+    let n = st.locals;
+    if limits.max_locals <= n {
+        return Step::Refused(6, place);
+    }
+    put_local(locals, LocalId(n), l);
+    let mut after = st;
+    after.locals = n + 1;
+    Step::Ok(after)
+}
+
+// The frame on top has one local more.
+fn count_local(frames: &mut [u32], st: AnalysisStack)
+    requires { ⌜ (16 * st .frames ≤ length (now frames)) × (0 < st .frames) × (number (now frames) (st .frames - 1) 2 < 65535) ⌝ }
+    ensures { λ _. ⌜ CountedLocal (now (frames .entry)) (now (frames .exit)) st ⌝ }
+{
+    let i = st.frames - 1;
+    let mut top = frame_at(frames, i);
+    top.n_locals += 1;
+    put_frame(frames, i, top);
+}
+
+// A local of the frame on top.
+pub fn push_in_frame(
+    locals: &mut [u32],
+    frames: &mut [u32],
+    limits: Limits,
+    st: AnalysisStack,
+    place: usize,
+    l: LocalDefinition,
+) -> Step
+    requires { ⌜ (16 * limits .«max_locals» ≤ length (now locals)) × (16 * st .frames ≤ length (now frames)) × (0 < st .frames) × (number (now frames) (st .frames - 1) 2 < 65535) ⌝ }
+    ensures { λ r. ⌜ PushedInFrame r (now (locals .entry)) (now (locals .exit)) (now (frames .entry)) (now (frames .exit)) limits st place l ⌝ }
+{
+    count_local(frames, st);
+    push_local(locals, limits, st, place, l)
+}
+
+// What a record's local is when it is defined.
+fn new_local(
+    place: u32,
+    has_name: bool,
+    name: u32,
+    span: u32,
+    depth: u32,
+    analyzed: bool,
+) -> LocalDefinition
+    ensures { λ r. ⌜ local r ≡ new-local (at-record place) (named «has_name» name) (span-of span) depth analyzed ⌝ }
+{
+    let none = AnalysisResult::no_dependence();
+    LocalDefinition {
+        defined_at_depth: depth,
+        used_at_depth: 4294967295,
+        used_by_sibling: false,
+        analysis: none,
+        analyzed: analyzed,
+        scratch_referenced: false,
+        span: span,
+        has_name: has_name,
+        name: name,
+        is_record: true,
+        place: place,
+    }
+}
+
+// A name that the frame on top has not defined.
+pub fn define_new(
+    locals: &mut [u32],
+    frames: &mut [u32],
+    limits: Limits,
+    st: AnalysisStack,
+    place: usize,
+    name: u32,
+    span: u32,
+    depth: u32,
+) -> Step
+    requires { ⌜ (16 * limits .«max_locals» ≤ length (now locals)) × (16 * st .frames ≤ length (now frames)) × (0 < st .frames) × (place < 4294967296) ⌝ }
+    ensures { λ r. ⌜ DefinedNew r (now (locals .entry)) (now (locals .exit)) (now (frames .entry)) (now (frames .exit)) limits st place name span depth ⌝ }
+{
+    let top = frame_at(frames, st.frames - 1);
+    if 65535 <= top.n_locals {
+        return Step::Refused(11, place);
+    }
+    let l = new_local(place as u32, true, name, span, depth, false);
+    push_in_frame(locals, frames, limits, st, place, l)
+}
+
+// An object's `this`, which no name finds.
+pub fn define_this(
+    locals: &mut [u32],
+    frames: &mut [u32],
+    limits: Limits,
+    st: AnalysisStack,
+    place: usize,
+    depth: u32,
+) -> Step
+    requires { ⌜ (16 * limits .«max_locals» ≤ length (now locals)) × (16 * st .frames ≤ length (now frames)) × (0 < st .frames) × (number (now frames) (st .frames - 1) 2 < 65535) × (place < 4294967296) ⌝ }
+    ensures { λ r. ⌜ DefinedThis r (now (locals .entry)) (now (locals .exit)) (now (frames .entry)) (now (frames .exit)) limits st place depth ⌝ }
+{
+    let l = new_local(place as u32, false, 0, 0, depth, true);
+    push_in_frame(locals, frames, limits, st, place, l)
+}
+
+// What the present value depends on once it uses a local.
+fn taint_by_local(taint: AnalysisResult, l: LocalDefinition) -> AnalysisResult
+    ensures { λ r. ⌜ result r ≡ tainted-by-local (result taint) (local l) ⌝ }
+{
+    let depends = taint.depend_on_local(l.defined_at_depth);
+    if l.analyzed {
+        let analysis = l.analysis;
+        return depends.taint_by(analysis);
+    }
+    depends
+}
+
+// A use of a local.
+pub fn touch_local(locals: &mut [u32], st: AnalysisStack, depth: u32, id: LocalId) -> AnalysisStack
+    requires { ⌜ (16 * st .locals ≤ length (now locals)) × (id .0 < st .locals) ⌝ }
+    ensures { λ r. ⌜ TouchedLocal r (now (locals .entry)) (now (locals .exit)) st depth (id .0) ⌝ }
+{
+    let l = local_at(locals, id);
+    let used = use_at(l, depth);
+    put_local(locals, id, note_reference(used));
+    let before = st.taint;
+    let taint = taint_by_local(before, l);
+    let mut after = st;
+    after.taint = taint;
+    after
+}
+
+// A use of an object's `this`.
+pub fn touch_object(locals: &[u32], st: AnalysisStack, id: LocalId) -> AnalysisStack
+    requires { ⌜ (16 * st .locals ≤ length (now locals)) × (id .0 < st .locals) ⌝ }
+    ensures { λ r. ⌜ TouchedObject r (now (locals .entry)) st (id .0) ⌝ }
+{
+    let l = local_at(locals, id);
+    let depth = l.defined_at_depth;
+    let before = st.taint;
+    let depends = before.depend_on_local(depth);
+    let taint = depends.depend_on_object(depth);
+    let mut after = st;
+    after.taint = taint;
+    after
+}
+
+// Whether a local is that of the record at this place.
+fn is_at(place: usize, is_record: bool, at: u32) -> bool
+    ensures { λ r. ⌜ r ≡ is-at place (binding «is_record» at) ⌝ }
+{
+    if is_record {
+        return place == at as usize;
+    }
+    false
+}
+
+// Whether the next of the frame's locals to be kept is that of the record at this place.
+pub fn is_kept(locals: &[u32], frames: &[u32], st: AnalysisStack, place: usize, next: u32) -> bool
+    requires { ⌜ (16 * st .locals ≤ length (now locals)) × (16 * st .frames ≤ length (now frames)) ⌝ }
+    ensures { λ r. ⌜ IsKept r (now (locals .entry)) (now (frames .entry)) st place next ⌝ }
+{
+    let first = first_in_frame(frames, st);
+    if st.locals <= first {
+        return false;
+    }
+    if st.locals - first <= next {
+        return false;
+    }
+    let l = local_at(locals, LocalId(first + next));
+    is_at(place, l.is_record, l.place)
+}
+
+// The local's analysis is that of the present value.
+pub fn set_analysis(locals: &mut [u32], st: AnalysisStack, id: LocalId) -> AnalysisStack
+    requires { ⌜ (16 * st .locals ≤ length (now locals)) × (id .0 < st .locals) ⌝ }
+    ensures { λ r. ⌜ SetAnalysis r (now (locals .entry)) (now (locals .exit)) st (id .0) ⌝ }
+{
+    let l = local_at(locals, id);
+    let taint = st.taint;
+    put_local(locals, id, with_analysis(l, taint));
+    st
+}
+
+// The references that a kept spec has noted, where R allows.
+pub fn keep_references(
+    locals: &mut [u32],
+    references: &mut [u32],
+    frames: &[u32],
+    limits: Limits,
+    st: AnalysisStack,
+    place: usize,
+    id: LocalId,
+) -> Step
+    requires { ⌜ (16 * st .locals ≤ length (now locals)) × (16 * st .frames ≤ length (now frames)) × (16 * limits .«max_references» ≤ length (now references)) × (st .references ≤ limits .«max_references») × ((f : ℕ) → f < st .frames → number (now frames) f 1 ≤ st .locals) ⌝ }
+    ensures { λ r. ⌜ KeptReferences r (now (locals .entry)) (now (locals .exit)) (now (references .entry)) (now (references .exit)) (now (frames .entry)) limits st place (id .0) ⌝ }
+{
+    let first = first_in_frame(frames, st);
+    let n = st.locals - first;
+    let kept = locals::keep_references(
+        locals,
+        references,
+        id,
+        first as usize,
+        n as usize,
+        st.references as usize,
+        limits.max_references as usize,
+    );
+    match kept {
+        Kept::To(count) => {
+            let mut after = st;
+            after.references = count as u32;
+            Step::Ok(after)
+        }
+        Kept::NoRoom => Step::Refused(17, place),
+    }
+}
+
+// Whether the local could be defined further out.
+pub fn could_be_hoisted(l: LocalDefinition) -> bool
+    ensures { λ r. ⌜ r ≡ could-be-hoisted (local l) ⌝ }
+{
+    let depth = l.defined_at_depth;
+    if l.analysis.local_dependent_depth <= depth {
+        return false;
+    }
+    if l.analysis.object_dependent_depth <= depth {
+        return false;
+    }
+    0 < depth
+}

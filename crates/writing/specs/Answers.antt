@@ -1,0 +1,85 @@
+-- What each step answers and leaves: the rules' step on the state that the buffers hold, whatever stands in those that it doesn't touch.
+-- Assumes nothing.
+use Prim.Native.Nat.{ℕ, _+_, _≤_, _<_}
+use mathlib.Core.Bool.{Bool}
+use mathlib.Core.List.{List, [], _∷_, _++_}
+use mathlib.Core.Path.{_≡_}
+use lib.ListN.{length, getD, take}
+use Rattle.rules.specs.Numbers.{Mark, SH, mark-bytes, record-bytes}
+use Rattle.rules.specs.Records.{Span}
+use Rattle.rules.specs.Frames.{top}
+use Rattle.rules.specs.Writing as rules
+use Rattle.packed.specs.declared.Written.{Written}
+use Rattle.packed.specs.declared.Written.the-variants.{To, NoRoom}
+use Rattle.frames.specs.Meaning.{frames-of}
+use Rattle.state.specs.Seen.{buffers, stack, seen, limits-of, Fit, Fits}
+use Rattle.state.specs.declared.AnalysisStack.{AnalysisStack}
+use Rattle.state.specs.declared.Limits.{Limits}
+use Rattle.state.specs.declared.Step.{Step}
+use Rattle.writing.specs.declared.Level.{Level}
+use Rattle.writing.specs.declared.Level.the-variants.{Error, Warning}
+
+unfoldable pub level-of : Level → rules.Level
+level-of Error = rules.error
+level-of Warning = rules.warning
+
+abbrev pub span-of : ℕ → Span
+span-of span = record { number = span }
+
+-- the record of the shape of the top of n frames
+abbrev pub shape-bytes : (n : ℕ) → (frames : List ℕ) → (count : ℕ) → (captures : List ℕ) → List ℕ
+shape-bytes n frames count captures = record-bytes SH (rules.shape-numbers (top (frames-of n frames count captures)))
+
+-- these bytes stand behind those that were used, or had no room; what lies past them may be anything
+abbrev pub Behind : Written → (before after : List ℕ) → (used : ℕ) → (bytes : List ℕ) → Type 0
+Behind (To next) before after used bytes = (next ≡ used + length bytes) × (next ≤ length before) × (take next after ≡ take used before ++ bytes)
+Behind NoRoom before after used bytes = length before < used + length bytes
+
+-- a record of the output
+pub record Emitted (r : Step) (before after : List ℕ) (st : AnalysisStack) (place : ℕ) (mark ns : List ℕ) : Type 0 where
+  pub same : (m : Mark) → getD mark 0 0 ∷ getD mark 1 0 ∷ [] ≡ mark-bytes m
+      → (l : Limits) (diagnostics locals frames captures references : List ℕ)
+      → seen r (buffers after diagnostics locals frames captures references)
+      ≡ rules.emit (limits-of l before diagnostics) place m ns (stack (buffers before diagnostics locals frames captures references) st)
+  pub fit : (l : Limits) (diagnostics locals frames captures references : List ℕ)
+      → Fit l (buffers before diagnostics locals frames captures references) st
+      → Fits l r (buffers after diagnostics locals frames captures references)
+
+-- a diagnostic
+pub record Reported (r : Step) (before after : List ℕ) (st : AnalysisStack) (place : ℕ) (level : Level) (code name span : ℕ) : Type 0 where
+  pub same : (l : Limits) (out locals frames captures references : List ℕ)
+      → seen r (buffers out after locals frames captures references)
+      ≡ rules.report (limits-of l out before) place (level-of level) code name (span-of span)
+      (stack (buffers out before locals frames captures references) st)
+  pub fit : (l : Limits) (out locals frames captures references : List ℕ)
+      → Fit l (buffers out before locals frames captures references) st
+      → Fits l r (buffers out after locals frames captures references)
+
+-- a diagnostic and a record of the output
+pub record BadPlace (r : Step) (out out′ diagnostics diagnostics′ : List ℕ) (st : AnalysisStack) (place code name span bad : ℕ) : Type 0 where
+  pub same : (l : Limits) (locals frames captures references : List ℕ)
+      → seen r (buffers out′ diagnostics′ locals frames captures references)
+      ≡ rules.bad-place (limits-of l out diagnostics) place code name (span-of span) bad
+      (stack (buffers out diagnostics locals frames captures references) st)
+  pub fit : (l : Limits) (locals frames captures references : List ℕ)
+      → Fit l (buffers out diagnostics locals frames captures references) st
+      → Fits l r (buffers out′ diagnostics′ locals frames captures references)
+
+-- a frame more
+pub record FrameOpened (r : Step) (before after : List ℕ) (l : Limits) (st : AnalysisStack) (place : ℕ) (is-defining : Bool) : Type 0 where
+  pub same : (out diagnostics locals captures references : List ℕ)
+      → Fit l (buffers out diagnostics locals before captures references) st
+      → seen r (buffers out diagnostics locals after captures references)
+      ≡ rules.open-frame (limits-of l out diagnostics) place is-defining (stack (buffers out diagnostics locals before captures references) st)
+  pub fit : (out diagnostics locals captures references : List ℕ)
+      → Fit l (buffers out diagnostics locals before captures references) st
+      → Fits l r (buffers out diagnostics locals after captures references)
+
+-- the top frame's shape, and the frame is gone
+pub record FrameClosed (r : Step) (out out′ frames captures captures′ : List ℕ) (st : AnalysisStack) (place : ℕ) : Type 0 where
+  pub same : (l : Limits) (diagnostics locals references : List ℕ)
+      → seen r (buffers out′ diagnostics locals frames captures′ references)
+      ≡ rules.close-frame (limits-of l out diagnostics) place (stack (buffers out diagnostics locals frames captures references) st)
+  pub fit : (l : Limits) (diagnostics locals references : List ℕ)
+      → Fit l (buffers out diagnostics locals frames captures references) st
+      → Fits l r (buffers out′ diagnostics locals frames captures′ references)
