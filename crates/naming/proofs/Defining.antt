@@ -36,7 +36,8 @@ use Rattle.state.specs.declared.AnalysisStack.{AnalysisStack}
 use Rattle.state.specs.declared.Limits.{Limits}
 use Rattle.state.specs.declared.Step.{Step}
 use Rattle.state.specs.declared.Step.the-variants.{Ok, Refused}
-use Rattle.naming.specs.Answers.{PushedLocal, CountedLocal, PushedInFrame, DefinedNew, DefinedThis, one-more-local, span-of}
+use Rattle.naming.specs.Answers.{PushedLocal, CountedLocal, PushedInFrame, DefinedNew, DefinedThis, one-more-local}
+use Rattle.state.specs.Seen.{span-of}
 use Rattle.naming.proofs.Finding.{locals-of-top}
 
 -- A new local

@@ -5,7 +5,6 @@ use mathlib.Core.Bool.{Bool, false}
 use mathlib.Core.List.{List, _∷_}
 use mathlib.Core.Path.{_≡_}
 use Rattle.rules.specs.Outcome.{choose}
-use Rattle.rules.specs.Records.{Span}
 use Rattle.rules.specs.Depths as depths
 use Rattle.rules.specs.Locals as locals
 use Rattle.rules.specs.Frames as frames
@@ -13,14 +12,10 @@ use Rattle.rules.specs.State as rules
 use Rattle.rules.specs.Scoping as scoping
 use Rattle.locals.specs.Meaning.{local}
 use Rattle.locals.specs.declared.LocalDefinition.{LocalDefinition}
-use Rattle.state.specs.Seen.{buffers, stack, seen, limits-of, Fit, Fits}
+use Rattle.state.specs.Seen.{span-of, buffers, stack, seen, limits-of, Fit, Fits}
 use Rattle.state.specs.declared.AnalysisStack.{AnalysisStack}
 use Rattle.state.specs.declared.Limits.{Limits}
 use Rattle.state.specs.declared.Step.{Step}
-
--- a span by its number
-abbrev pub span-of : ℕ → Span
-span-of n = record { number = n }
 
 -- what a value depends on that uses a local
 unfoldable pub tainted-by-local : depths.AnalysisResult → locals.LocalDefinition → depths.AnalysisResult

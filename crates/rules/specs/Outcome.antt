@@ -1,4 +1,4 @@
--- "Every call ends with a result or one numbered refusal": answers that may be refusals, and branches by name. Assumes nothing.
+-- The user's first demand, that every call ends with a result or one numbered refusal: answers that may be refusals, and branches by name. Assumes nothing.
 use Prim.Native.Nat.{ℕ}
 use mathlib.Core.Bool.{Bool, true, false}
 use mathlib.Core.Option.{Option, none, some}

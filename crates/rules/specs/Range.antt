@@ -1,4 +1,4 @@
--- The trees that the packed form can hold: "numbers, counts and nesting in range", each record where its place says. Assumes nothing.
+-- The trees that the packed form can hold: numbers, counts and nesting in range, each record where its place says. Assumes nothing.
 use Prim.Native.Nat.{ℕ, zero, suc, _+_, _*_, _-_, _<_, _≤_}
 use mathlib.Core.Bool.{Bool, true, false, _&&_}
 use mathlib.Core.List.{List, [], _∷_, _++_}

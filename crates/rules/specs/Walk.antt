@@ -43,7 +43,7 @@ in-object id h = record { depth = h .depth; this-local = some id; dollar-alias =
 
 -- Names of functions
 
--- "named for `BF` and for method fields with a fixed name; else 0 0"; "warning 10 bears the `FN`'s span, for a method field its head's, for `BF` the bind's"
+-- "named for `BF` and for method fields with a fixed name; else 0 0"; "warning 10 bears the `FN`'s span, for a method field its head's .., for `BF` the bind's"
 pub data Naming : Type 0 where
   unnamed : Naming
   as-bind as-method : Name → Span → Naming

@@ -66,7 +66,7 @@ module _ (limits : Limits) where
     st ← report p error code name span st
     emit p BL (bad ∷ []) st
 
-  -- a frame "beyond F" (7)
+  -- a frame beyond F (7)
   unfoldable pub open-frame : (place : ℕ) → (is-defining : Bool) → AnalysisStack → Outcome AnalysisStack
   open-frame p is-defining st = do
     _ ← need (ltb (length (st .frames)) (limits .frames)) 7 p

@@ -3,6 +3,7 @@ use Prim.Native.Nat.{ℕ, _+_, _*_, _≤_, _<_}
 use mathlib.Core.List.{List}
 use lib.ListN.{length, take}
 use Rattle.rules.specs.Outcome.{Outcome, ok, refuse}
+use Rattle.rules.specs.Records.{Span}
 use Rattle.rules.specs.State as rules
 use Rattle.depths.specs.Meaning.{result}
 use Rattle.locals.specs.Meaning.{locals-of, references-of}
@@ -12,6 +13,10 @@ use Rattle.state.specs.declared.AnalysisStack.{AnalysisStack}
 use Rattle.state.specs.declared.Limits.{Limits}
 use Rattle.state.specs.declared.Step.{Step}
 use Rattle.state.specs.declared.Step.the-variants.{Ok, Refused}
+
+-- a span by its number, as the code has it
+abbrev pub span-of : ℕ → Span
+span-of span = record { number = span }
 
 -- the contents of the six buffers that are written to
 pub record Buffers : Type 0 where

@@ -22,7 +22,8 @@ use Rattle.state.specs.declared.AnalysisStack.{AnalysisStack}
 use Rattle.state.specs.declared.Limits.{Limits}
 use Rattle.state.specs.declared.Step.{Step}
 use Rattle.state.specs.declared.Step.the-variants.{Ok, Refused}
-use Rattle.writing.specs.Answers.{level-of, span-of, Behind, Emitted, Reported, BadPlace}
+use Rattle.writing.specs.Answers.{level-of, Behind, Emitted, Reported, BadPlace}
+use Rattle.state.specs.Seen.{span-of}
 use Rattle.writing.specs.declared.Level.{Level}
 use Rattle.writing.specs.declared.Level.the-variants.{Error, Warning}
 

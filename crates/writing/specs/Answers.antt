@@ -6,13 +6,12 @@ use mathlib.Core.List.{List, [], _∷_, _++_}
 use mathlib.Core.Path.{_≡_}
 use lib.ListN.{length, getD, take}
 use Rattle.rules.specs.Numbers.{Mark, SH, mark-bytes, record-bytes}
-use Rattle.rules.specs.Records.{Span}
 use Rattle.rules.specs.Frames.{top}
 use Rattle.rules.specs.Writing as rules
 use Rattle.packed.specs.declared.Written.{Written}
 use Rattle.packed.specs.declared.Written.the-variants.{To, NoRoom}
 use Rattle.frames.specs.Meaning.{frames-of}
-use Rattle.state.specs.Seen.{buffers, stack, seen, limits-of, Fit, Fits}
+use Rattle.state.specs.Seen.{span-of, buffers, stack, seen, limits-of, Fit, Fits}
 use Rattle.state.specs.declared.AnalysisStack.{AnalysisStack}
 use Rattle.state.specs.declared.Limits.{Limits}
 use Rattle.state.specs.declared.Step.{Step}
@@ -22,9 +21,6 @@ use Rattle.writing.specs.declared.Level.the-variants.{Error, Warning}
 unfoldable pub level-of : Level → rules.Level
 level-of Error = rules.error
 level-of Warning = rules.warning
-
-abbrev pub span-of : ℕ → Span
-span-of span = record { number = span }
 
 -- the record of the shape of the top of n frames
 abbrev pub shape-bytes : (n : ℕ) → (frames : List ℕ) → (count : ℕ) → (captures : List ℕ) → List ℕ
