@@ -1,5 +1,6 @@
 // The state of the analysis, which goes by value beside the lent tables: types only.
 use depths::AnalysisResult;
+use locals::LocalId;
 
 // How many entries of each table and how many bytes of each buffer are in use, what was met of the present object, what the
 // present value depends on, whether an error was reported, and the rounds so far.
@@ -30,4 +31,32 @@ pub struct Limits {
 pub enum Step {
     Ok(AnalysisStack),
     Refused(u32, usize),
+}
+
+// The state after a walk and the place behind what was walked, or the refusal's number and place.
+pub enum Walked {
+    To(AnalysisStack, usize),
+    Refused(u32, usize),
+}
+
+// The same after a walk over a frame's specs, with how many of them are kept.
+pub enum Specs {
+    To(AnalysisStack, usize, u32),
+    Refused(u32, usize),
+}
+
+// Where an expression stands: the depth, and the ids of the innermost object's `this` and of the outermost's, if there is one.
+pub struct Place {
+    pub depth: u32,
+    pub in_object: bool,
+    pub this_local: LocalId,
+    pub dollar_alias: LocalId,
+}
+
+// What a function is called, and the span that its warning bears if it isn't its own.
+pub enum Naming {
+    Unnamed,
+    AsBind(u32, u32),
+    AsMethod(u32, u32),
+    AsComputedMethod(u32),
 }

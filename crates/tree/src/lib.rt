@@ -89,7 +89,7 @@ fn has_room(tree: &[u8], at: usize, n: usize) -> bool
 }
 
 // The bytes that a record with this mark takes.
-fn size_of(mark: u32) -> usize
+pub fn size_of(mark: u32) -> usize
     ensures { λ r. ⌜ (r ≡ size-of (mark-of mark)) × (2 ≤ r) × (r ≤ 26) ⌝ }
 {
     match mark {
@@ -137,7 +137,7 @@ fn members(set: u32) -> usize
 }
 
 // How many records stand directly below the record with this mark that the bytes begin with.
-fn children(bytes: &[u8], mark: u32) -> usize
+pub fn children(bytes: &[u8], mark: u32) -> usize
     ensures { λ r. ⌜ r ≡ children (mark-of mark) (numbers-at (now (bytes .entry)) (numbers-of (mark-of mark)) 2) ⌝ }
 {
     match mark {
@@ -253,7 +253,7 @@ fn constant(tree: &[u8], at: usize) -> bool
 }
 
 // Whether n whole constants stand one behind the other; looks no further than the first record that is none.
-fn constants(tree: &[u8], at: usize, n: usize) -> bool
+pub fn constants(tree: &[u8], at: usize, n: usize) -> bool
     ensures { λ r. ⌜ r ≡ is-some (constants-at (now (tree .entry)) n at) ⌝ }
 {
     let mut p = at;
@@ -296,7 +296,7 @@ pub fn skip(tree: &[u8], at: usize) -> usize
 }
 
 // The place behind a field's head whose name, if it is computed, was read before.
-fn after_head(tree: &[u8], at: usize) -> usize
+pub fn after_head(tree: &[u8], at: usize) -> usize
     requires { ⌜ at + 26 ≤ length (now tree) ⌝ }
     ensures { λ r. ⌜ Behind (now (tree .entry)) at r ⌝ }
 {

@@ -1,0 +1,3 @@
+-- What the contracts of the walkers cite beside the rules.
+pub mod Run
+pub mod Steps
