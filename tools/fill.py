@@ -56,7 +56,7 @@ def split(f,folder,nb):
         if name.startswith('pub +'): final=b; continue
         m=next(m for m in sorted(mods,key=len,reverse=True) if bare.startswith(m+'-'))
         by[m].append(re.sub(r'^-- src/\S+\n','',b.strip()))
-    kr=[l for l in header if re.search(r'walk_\w+\.(Reads|Kinds) as ',l) or 'borrow.Fn' in l or 'Prim.Native.Nat' in l]
+    kr=[l for l in header if re.search(r'(?:'+'|'.join(k.replace('-','_') for k in mods)+r')\.(Reads|Kinds) as ',l) or 'borrow.Fn' in l or 'Prim.Native.Nat' in l]
     with open(root+'/Measures.antt','w') as o:
         o.write('-- The measures of the cycle, and what a member is given at a measure and asks below one. Assumes nothing.\n')
         u=uses.get(folder+'/Measures',[])
@@ -87,7 +87,7 @@ def split(f,folder,nb):
         mm=re.match(r'\s*\((\S+) t\)\s*(\S+)',body[k1+1:])
         sig=f'pub {m}-met : {{M : Type 1}} (t : ℕ) → {lt.group(1)}.Closed {claims} ({mm.group(1)} t) {mm.group(2)} M'
         txt='\n'.join(by[m])
-        h=[l for l in header if 'statement' not in l and 'close' not in l and 'PlainCycle' not in l and 'Fn.Kinds' not in l and 'Prim.Native.Nat' not in l]
+        h=[l for l in header if 'statement' not in l and not re.search(r'[{ ,]close[,}]',l) and 'PlainCycle' not in l and 'Fn.Kinds' not in l and 'Prim.Native.Nat' not in l]
         h=[l for l in h if not (re.search(r'as (\S+)-(kinds|lts)$',l) and not l.endswith(f'as {m}-lts'))]
         h=[l for l in h if not l.endswith('-lts') or l.endswith(f' {m}-lts')]
         alltxt=txt+body
@@ -104,7 +104,7 @@ def split(f,folder,nb):
     with open(f,'w') as o:
         o.write('-- The one proof of the cycle: the measures, and what each member\'s module shows. Assumes nothing.\n')
         o.write('\n'.join(['mod Measures']+[f'mod {x}' for x in mods.values()])+'\n')
-        o.write('\n'.join(l for l in header if 'statement' in l or 'close' in l)+'\n')
+        o.write('\n'.join(l for l in header if 'statement' in l or re.search(r'[{ ,]close[,}]',l))+'\n')
         mu=re.findall(r'μ-[a-z-]+',mus)
         o.write('use Measures.{'+', '.join(mu)+'}\n')
         for m,x in mods.items(): o.write(f'use {x}.{{{m}-met}}\n')
@@ -137,7 +137,7 @@ while i<len(log):
                 if re.fullmatch(pat,name): txt=t; break
             un=''
             if callable(txt):
-                lp,need=folder_lts(folder,name,b); recs,needs=lts(lp); txt=txt(needs[need],recs)
+                lp,need=folder_lts(folder,name,b); recs,needs=lts(lp); txt=txt(needs[need],recs,need) if txt.__code__.co_argcount==3 else txt(needs[need],recs)
             if txt is not None:
                 if isinstance(txt,tuple): un,txt=txt
                 if '@' in txt:

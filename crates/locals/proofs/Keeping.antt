@@ -53,7 +53,7 @@ unnoted l e = ap (λ (b : Bool). with-scratch-referenced b l) (sym e)
 
 -- References
 
-length-references : (n : ℕ) (t : List ℕ) → length (references-of n t) ≡ n
+pub length-references : (n : ℕ) (t : List ℕ) → length (references-of n t) ≡ n
 unfolding references-of
 length-references n t = length-map (rows n t) reference-of-row ∙ length-rows n t
 

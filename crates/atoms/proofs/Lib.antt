@@ -1,0 +1,4 @@
+-- What the proofs share.
+pub mod Laws
+pub mod Using
+pub mod Copying

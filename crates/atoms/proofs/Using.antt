@@ -1,0 +1,302 @@
+-- Uses of an object's `this` and of a local: the state that they leave, and the slot that is written then. Assumes nothing.
+use Prim.Native.Nat.{ℕ, zero, suc, _+_, _≤_, _<_}
+use mathlib.Core.Bool.{Bool, true, false}
+use mathlib.Core.List.{List, [], _∷_}
+use mathlib.Core.Option.{Option, none, some}
+use mathlib.Core.Path.{_≡_, refl, sym, ap, ap₂, subst, _∙_}
+use native.Mathlib.Omega.{arith}
+use lib.ListN.{length, length-set}
+use borrow.Author.Tests.{eq-eqb, ne-eqb}
+use Rattle.rules.specs.Outcome.{Outcome, choose, given}
+use Rattle.rules.specs.Numbers.{Name, SU, code, mark-bytes, number-at}
+use Rattle.rules.specs.Depths as depths
+use Rattle.rules.specs.Locals as locals-rules
+use Rattle.rules.specs.State as rules
+use Rattle.rules.specs.Scoping as scoping
+use Rattle.rules.specs.Walk as walk
+use Rattle.depths.specs.declared.AnalysisResult.{AnalysisResult}
+use Rattle.locals.specs.Meaning.{locals-of, found}
+use Rattle.locals.specs.declared.Found.{Found}
+use Rattle.locals.specs.declared.Found.the-variants.{At, Nothing}
+use Rattle.locals.specs.declared.LocalId.{LocalId}
+use Rattle.locals.proofs.Laws.{length-locals}
+use Rattle.frames.specs.Kept.{Kept}
+use Rattle.runs.specs.Steps.{identity-steps, variable-steps}
+use Rattle.state.specs.Seen.{Buffers, buffers, stack, Fit}
+use Rattle.state.specs.Walks.{id-if, place-of, Stands, Steps}
+use Rattle.state.specs.declared.AnalysisStack.{AnalysisStack}
+use Rattle.state.specs.declared.Limits.{Limits}
+use Rattle.state.specs.declared.Place.{Place}
+use Rattle.state.specs.declared.Step.{Step}
+use Rattle.state.specs.declared.Walked.{Walked}
+use Rattle.naming.specs.Answers.{TouchedLocal, TouchedObject}
+use Rattle.using.specs.Answers.{SlotEmitted}
+use Rattle.writing.specs.Answers.{Emitted, BadPlace}
+use Rattle.atoms.specs.Answers.{behind, identity-id, object-used, identity-written, UsedObject, UsedLocal, IdentityEmitted, IdentityAnalyzed, VariableAnalyzed}
+use Rattle.atoms.proofs.Laws.{emitted-steps, bad-steps, walks-behind}
+
+-- The state with another dependence and other marks of the present object, which fits where it did
+
+abbrev pub used-as : (self super dollar : Bool) → AnalysisResult → AnalysisStack → AnalysisStack
+used-as self super dollar taint st = record {
+  locals = st .locals;
+  frames = st .frames;
+  captures = st .captures;
+  references = st .references;
+  out = st .out;
+  diagnostics = st .diagnostics;
+  «self_used» = self;
+  «super_used» = super;
+  «dollar_used» = dollar;
+  taint = taint;
+  errored = st .errored;
+  rounds = st .rounds;
+}
+
+fits-used : (self super dollar : Bool) (taint : AnalysisResult) {l : Limits} {out diagnostics locals locals′ frames captures references : List ℕ} {st : AnalysisStack}
+    → length locals′ ≡ length locals → Fit l (buffers out diagnostics locals frames captures references) st
+    → Fit l (buffers out diagnostics locals′ frames captures references) (used-as self super dollar taint st)
+fits-used self super dollar taint long fit = record {
+  locals-long = omega (arith, fit .locals-long);
+  frames-long = fit .frames-long;
+  captures-long = fit .captures-long;
+  references-long = fit .references-long;
+  few-locals = fit .few-locals;
+  few-frames = fit .few-frames;
+  few-captures = fit .few-captures;
+  few-references = fit .few-references;
+  out-long = fit .out-long;
+  diagnostics-long = fit .diagnostics-long;
+  frames-kept = fit .frames-kept;
+  first-there = fit .first-there;
+  first-rises = fit .first-rises;
+}
+
+-- An object's `this`
+
+abbrev use-of : (self super dollar : Bool) → rules.ObjectUse
+use-of self super dollar = record { self-used = self; super-used = super; dollar-used = dollar }
+
+module _ {touched : AnalysisStack} {locals : List ℕ} {st : AnalysisStack} {id : ℕ} (t : TouchedObject touched locals st id) where
+  marked : (self super dollar : Bool) (which : ℕ) → use-of self super dollar ≡ walk.mark-used which (use-of (st .«self_used») (st .«super_used») (st .«dollar_used»))
+      → UsedObject (used-as self super dollar (touched .taint) st) locals st which id
+  unfolding stack object-used scoping.touch-object rules.with-taint rules.with-object-use
+  marked self super dollar which is = record {
+    same = λ out ds fs cs rs.
+        let S = stack (buffers out ds locals fs cs rs) st in
+        ap₂ (λ (u : rules.ObjectUse) (a : depths.AnalysisResult). rules.with-taint a (rules.with-object-use u S)) is
+        (ap (λ (s : rules.AnalysisStack). s .taint) (t .same out ds fs cs rs));
+    fit = λ l out ds fs cs rs fit. fits-used self super dollar (touched .taint) refl fit;
+    as-many-frames = refl;
+    as-many-captures = refl;
+  }
+
+  pub used-as-self : (which : ℕ) → which ≡ 0 → UsedObject (used-as true (st .«super_used») (st .«dollar_used») (touched .taint) st) locals st which id
+  unfolding walk.mark-used
+  used-as-self which e = marked true (st .«super_used») (st .«dollar_used») which (rw e refl)
+
+  pub used-as-super : (which : ℕ) → which ≡ 1 → UsedObject (used-as (st .«self_used») true (st .«dollar_used») (touched .taint) st) locals st which id
+  unfolding walk.mark-used
+  used-as-super which e = marked (st .«self_used») true (st .«dollar_used») which (rw e refl)
+
+  pub used-as-dollar : (which : ℕ) → (which ≡ 0 → ⊥) → (which ≡ 1 → ⊥)
+      → UsedObject (used-as (st .«self_used») (st .«super_used») true (touched .taint) st) locals st which id
+  unfolding walk.mark-used
+  used-as-dollar zero not-self not-super = absurd (not-self refl)
+  used-as-dollar (suc zero) not-self not-super = absurd (not-super refl)
+  used-as-dollar (suc (suc n)) not-self not-super = marked (st .«self_used») (st .«super_used») true (suc (suc n)) refl
+
+-- A local
+
+module _ {touched : AnalysisStack} {locals locals′ : List ℕ} {st : AnalysisStack} {depth id : ℕ} (t : TouchedLocal touched locals locals′ st depth id) where
+  -- there are as many locals
+  locals-set : (out ds fs cs rs : List ℕ)
+      → locals-of (st .locals) locals′ ≡ scoping.touch-local depth id (stack (buffers out ds locals fs cs rs) st) .locals
+  unfolding stack scoping.touch-local rules.with-taint rules.with-locals
+  locals-set out ds fs cs rs =
+      let whole = ap (λ (s : rules.AnalysisStack). s .locals) (t .same out ds fs cs rs) in
+      let set-many : length (scoping.touch-local depth id (stack (buffers out ds locals fs cs rs) st) .locals) ≡ st .locals = simp length-set (length-locals (st .locals) locals) in
+      let many : touched .locals ≡ st .locals = sym (length-locals (touched .locals) locals′) ∙ ap length whole ∙ set-many in
+      ap (λ (n : ℕ). locals-of n locals′) (sym many) ∙ whole
+
+  pub local-used : length locals′ ≡ length locals
+      → UsedLocal (used-as (st .«self_used») (st .«super_used») (st .«dollar_used») (touched .taint) st) locals locals′ st depth id
+  unfolding stack scoping.touch-local rules.with-taint rules.with-locals
+  local-used long = record {
+    same = λ out ds fs cs rs.
+        let S = stack (buffers out ds locals fs cs rs) st in
+        ap₂ (λ (ls : List locals-rules.LocalDefinition) (a : depths.AnalysisResult). rules.with-taint a (rules.with-locals ls S)) (locals-set out ds fs cs rs)
+        (ap (λ (s : rules.AnalysisStack). s .taint) (t .same out ds fs cs rs));
+    fit = λ l out ds fs cs rs fit. fits-used (st .«self_used») (st .«super_used») (st .«dollar_used») (touched .taint) long fit;
+    as-many-frames = refl;
+    as-many-captures = refl;
+  }
+
+-- what is kept of the frames is kept of as many
+pub kept-as-many : {n n′ count count′ : ℕ} {frames captures : List ℕ} → n′ ≡ n → count′ ≡ count → Kept n frames count captures → Kept n′ frames count′ captures
+kept-as-many e f kept = rw (e, f) kept
+
+-- A step behind a use
+
+module _ {r : Step} {l : Limits} {out diagnostics locals locals′ frames captures references : List ℕ} {b′ : Buffers} {st used : AnalysisStack} where
+  steps-after : {f : rules.Limits → rules.AnalysisStack → Outcome rules.AnalysisStack} (g : rules.Limits → rules.AnalysisStack → Outcome rules.AnalysisStack)
+      (T : rules.AnalysisStack)
+      → Steps r l (buffers out diagnostics locals′ frames captures references) b′ used f
+      → stack (buffers out diagnostics locals′ frames captures references) used ≡ T
+      → ((limits : rules.Limits) → f limits T ≡ g limits (stack (buffers out diagnostics locals frames captures references) st))
+      → Steps r l (buffers out diagnostics locals frames captures references) b′ st g
+  steps-after {f = f} g T steps is agree = record {
+    same = λ limits e. steps .same limits e ∙ ap (f limits) is ∙ agree limits;
+    fit = steps .fit;
+  }
+
+slot-steps : {r : Step} {out out′ frames captures captures′ : List ℕ} {limits : Limits} {st : AnalysisStack} {place id : ℕ}
+    → SlotEmitted r out out′ frames captures captures′ limits st place id
+    → (diagnostics locals references : List ℕ) → Fit limits (buffers out diagnostics locals frames captures references) st
+    → Steps r limits (buffers out diagnostics locals frames captures references) (buffers out′ diagnostics locals frames captures′ references) st
+    (λ limits s. scoping.emit-slot limits place id s)
+slot-steps {out = out} {frames = fs} {captures = cs} {st = st} {place = place} {id = id} emitted ds ls rs fit = record {
+  same = λ limits is.
+      emitted .same ds ls rs ∙ ap (λ (L : rules.Limits). scoping.emit-slot L place id (stack (buffers out ds ls fs cs rs) st)) (sym is);
+  fit = emitted .fit ds ls rs fit;
+}
+
+-- self, super and $ inside an object
+
+module _ {used : AnalysisStack} {locals : List ℕ} {st : AnalysisStack} {which id : ℕ} (u : UsedObject used locals st which id)
+    {r : Step} {out out′ frames captures : List ℕ} {limits : Limits} {at : ℕ} where
+  pub super-emitted : Emitted r out out′ used at (0x53 ∷ 0x55 ∷ []) [] → which ≡ 1 → IdentityEmitted r out out′ locals frames captures captures limits st at which id
+  unfolding mark-bytes code identity-written choose
+  super-emitted emitted is-super = record {
+    steps = λ ds rs fit.
+        steps-after (λ limits s. identity-written limits at which id s) _
+        (emitted-steps emitted SU refl limits ds locals frames captures rs (u .fit limits out ds frames captures rs fit))
+        (u .same out ds frames captures rs) (λ limits. rw (eq-eqb which 1 is-super) refl);
+  }
+
+  pub this-emitted : {captures′ : List ℕ} → SlotEmitted r out out′ frames captures captures′ limits used at id → (which ≡ 1 → ⊥)
+      → IdentityEmitted r out out′ locals frames captures captures′ limits st at which id
+  unfolding identity-written choose
+  this-emitted emitted no-super = record {
+    steps = λ ds rs fit.
+        steps-after (λ limits s. identity-written limits at which id s) _
+        (slot-steps emitted ds locals rs (u .fit limits out ds frames captures rs fit))
+        (u .same out ds frames captures rs) (λ limits. rw (ne-eqb which 1 no-super) refl);
+  }
+
+-- Which local that is
+
+pub id-of-dollar : (which : ℕ) (here : Place) → 2 ≤ which → here .«dollar_alias» .0 ≡ identity-id which here
+unfolding identity-id
+id-of-dollar zero here h = absurd (omega arith)
+id-of-dollar (suc zero) here h = absurd (omega arith)
+id-of-dollar (suc (suc n)) here h = refl
+
+pub id-of-this : (which : ℕ) (here : Place) → which < 2 → here .«this_local» .0 ≡ identity-id which here
+unfolding identity-id
+id-of-this zero here h = refl
+id-of-this (suc zero) here h = refl
+id-of-this (suc (suc n)) here h = absurd (omega arith)
+
+-- it is there inside an object
+pub identity-there : (which : ℕ) (here : Place) (st : AnalysisStack) (id : ℕ) → id ≡ identity-id which here → here .«in_object» ≡ true → Stands here st → id < st .locals
+unfolding identity-id
+identity-there zero here st id e inside stands = omega (arith, e, stands .this-there inside)
+identity-there (suc zero) here st id e inside stands = omega (arith, e, stands .this-there inside)
+identity-there (suc (suc n)) here st id e inside stands = omega (arith, e, stands .dollar-there inside)
+
+inside-is : (which : ℕ) (here : Place) → here .«in_object» ≡ true → walk.identity-local which (place-of here) ≡ some (identity-id which here)
+unfolding identity-id walk.identity-local place-of id-if
+inside-is zero here inside = rw inside refl
+inside-is (suc zero) here inside = rw inside refl
+inside-is (suc (suc n)) here inside = rw inside refl
+
+outside-is : (which : ℕ) (here : Place) → here .«in_object» ≡ false → walk.identity-local which (place-of here) ≡ none
+unfolding walk.identity-local place-of id-if
+outside-is zero here outside = rw outside refl
+outside-is (suc zero) here outside = rw outside refl
+outside-is (suc (suc n)) here outside = rw outside refl
+
+module _ {r : Step} {w : Walked} {tree out out′ locals frames captures : List ℕ} {limits : Limits} {st : AnalysisStack} {at : ℕ} {here : Place} {which : ℕ}
+    (is : w ≡ behind (at + 10) r) (is-which : which ≡ number-at tree (at + 2)) where
+  pub identity-inside : {diagnostics captures′ : List ℕ} {id : ℕ} → IdentityEmitted r out out′ locals frames captures captures′ limits st at which id
+      → id ≡ identity-id which here → here .«in_object» ≡ true
+      → IdentityAnalyzed w tree out out′ diagnostics diagnostics locals frames captures captures′ limits st at here
+  unfolding identity-steps walk.use-identity given identity-written object-used
+  identity-inside {diagnostics = ds} emitted is-id inside = record {
+    walks = λ rs fit.
+        walks-behind (at + 10) (λ limits s. identity-steps limits tree at (place-of here) s) is (emitted .steps ds rs fit)
+        (λ limits. rw (← is-which, inside-is which here inside, is-id) refl);
+  }
+
+  pub identity-outside : {diagnostics diagnostics′ : List ℕ} {span : ℕ} → BadPlace r out out′ diagnostics diagnostics′ st at (3 + which) 0 span which
+      → span ≡ number-at tree (at + 6) → here .«in_object» ≡ false
+      → IdentityAnalyzed w tree out out′ diagnostics diagnostics′ locals frames captures captures limits st at here
+  unfolding identity-steps walk.use-identity given
+  identity-outside was-bad is-span outside = record {
+    walks = λ rs fit.
+        walks-behind (at + 10) (λ limits s. identity-steps limits tree at (place-of here) s) is (bad-steps was-bad limits locals frames captures rs fit)
+        (λ limits. rw (← is-which, outside-is which here outside, is-span) refl);
+  }
+
+-- Names
+
+-- what a search finds is one of those that it looked at
+abbrev Below : Option ℕ → ℕ → Type 0
+Below none n = Unit {0}
+Below (some id) n = id < n
+
+below-more : (o : Option ℕ) (m n : ℕ) → m ≤ n → Below o m → Below o n
+below-more none m n le h = tt
+below-more (some id) m n le h = omega (arith, h)
+
+newest-below : (name : Name) (ls : List locals-rules.LocalDefinition) (first n : ℕ) → Below (locals-rules.newest name ls first n) (first + n)
+unfolding locals-rules.newest choose
+newest-below name ls first zero = tt
+newest-below name ls first (suc n) = by (locals-rules.has-name name (locals-rules.local-at ls (first + n))) (newest-below name ls first n)
+  where
+    by : (b : Bool) → Below (locals-rules.newest name ls first n) (first + n) → Below (choose b (λ _. some (first + n)) (λ _. locals-rules.newest name ls first n)) (first + suc n)
+    by true h = omega arith
+    by false h = below-more (locals-rules.newest name ls first n) (first + n) (first + suc n) (omega arith) h
+
+module _ (f : Found) (locals : List ℕ) (st : AnalysisStack) (name : ℕ)
+    (searched : (total : ℕ) → 0 + st .locals ≤ total → found f ≡ locals-rules.newest name (locals-of total locals) 0 (st .locals)) where
+  pub found-there : (id : LocalId) → f ≡ At id → id .0 < st .locals
+  unfolding found
+  found-there id e =
+      let below = newest-below name (locals-of (st .locals) locals) 0 (st .locals) in
+      let told : some (id .0) ≡ locals-rules.newest name (locals-of (st .locals) locals) 0 (st .locals) = sym (ap found e) ∙ searched (st .locals) (omega arith) in
+      omega (arith, subst (λ (o : Option ℕ). Below o (0 + st .locals)) (sym told) below)
+
+  -- the rules' search, over all locals
+  whole-search : (b : Buffers) → b .locals ≡ locals
+      → locals-rules.newest name (stack b st .locals) 0 (length (stack b st .locals)) ≡ found f
+  unfolding stack
+  whole-search b e =
+      rw e (ap (locals-rules.newest name (locals-of (st .locals) locals) 0) (length-locals (st .locals) locals) ∙ sym (searched (st .locals) (omega arith)))
+
+  module _ {r : Step} {w : Walked} {tree out out′ frames captures : List ℕ} {limits : Limits} {at : ℕ} {here : Place}
+      (is : w ≡ behind (at + 10) r) (is-name : name ≡ number-at tree (at + 2)) where
+    pub variable-found : {diagnostics locals′ captures′ : List ℕ} {used : AnalysisStack} (id : LocalId) → UsedLocal used locals locals′ st (here .depth) (id .0)
+        → SlotEmitted r out out′ frames captures captures′ limits used at (id .0) → f ≡ At id
+        → VariableAnalyzed w tree out out′ diagnostics diagnostics locals locals′ frames captures captures′ limits st at here
+    unfolding variable-steps walk.use-local given place-of found
+    variable-found {diagnostics = ds} {locals′ = ls′} id u emitted e = record {
+      walks = λ rs fit.
+          let b = buffers out ds locals frames captures rs in
+          walks-behind (at + 10) (λ limits s. variable-steps limits tree at (place-of here) s) is
+          (steps-after (λ limits s. scoping.emit-slot limits at (id .0) (scoping.touch-local (here .depth) (id .0) s)) _
+          (slot-steps emitted ds ls′ rs (u .fit limits out ds frames captures rs fit)) (u .same out ds frames captures rs) (λ limits. refl))
+          (λ limits. rw (← is-name, whole-search b refl, e) refl);
+    }
+
+    pub variable-unknown : {diagnostics diagnostics′ : List ℕ} {span : ℕ} → BadPlace r out out′ diagnostics diagnostics′ st at 1 name span 3
+        → span ≡ number-at tree (at + 6) → f ≡ Nothing
+        → VariableAnalyzed w tree out out′ diagnostics diagnostics′ locals locals frames captures captures limits st at here
+    unfolding variable-steps walk.use-local given found
+    variable-unknown {diagnostics = ds} was-bad is-span e = record {
+      walks = λ rs fit.
+          let b = buffers out ds locals frames captures rs in
+          walks-behind (at + 10) (λ limits s. variable-steps limits tree at (place-of here) s) is (bad-steps was-bad limits locals frames captures rs fit)
+          (λ limits. rw (← is-name, whole-search b refl, e, is-span) refl);
+    }

@@ -1,0 +1,295 @@
+// The analysis' records with nothing below them: each read in the tree, its step made, and the place behind it answered.
+ghost use mathlib.Core.Path.{_≡_};
+ghost use Prim.Native.Nat.{_+_, _*_, _≤_, _<_};
+ghost use lib.ListN.{length, take, drop};
+ghost use lib.Seq.{sets};
+ghost use lib.Dec.{leb};
+ghost use Rattle.rules.specs.Outcome.{choose};
+ghost use Rattle.rules.specs.Numbers.{number-at, numbers-bytes, code, code-at, is-set};
+ghost use Rattle.rules.specs.Records.{size-of};
+ghost use Rattle.tree.specs.Marks.{mark-of};
+ghost use Rattle.runs.specs.Steps.{values-from};
+ghost use Rattle.frames.specs.Kept.{Kept};
+ghost use Rattle.state.specs.Walks.{Stands};
+ghost use Rattle.atoms.specs.Answers.{behind, identity-id, UsedObject, UsedLocal, IdentityEmitted, IdentityAnalyzed, VariableAnalyzed, ImportAnalyzed, HeadEmitted, RecordCopied, ConstantsEmitted};
+use locals::Found;
+use locals::LocalId;
+use locals::newest;
+use naming::touch_local;
+use naming::touch_object;
+use packed::number_at;
+use packed::put_record;
+use state::AnalysisStack;
+use state::Limits;
+use state::Place;
+use state::Step;
+use state::Walked;
+use tree::size_of;
+use using::emit_slot;
+use writing::bad_place;
+use writing::emit;
+
+// A step's answer, and the place behind its record.
+fn behind(step: Step, next: usize) -> Walked
+    ensures { λ r. ⌜ r ≡ behind next step ⌝ }
+{
+    match step {
+        Step::Ok(st) => Walked::To(st, next),
+        Step::Refused(number, place) => Walked::Refused(number, place),
+    }
+}
+
+// A use of an object's `this` as self (0), super (1) or $ (2). Of what the use changes only the dependence is taken, so that
+// the counts are seen to stay.
+fn use_object(locals: &[u32], st: AnalysisStack, which: u32, id: LocalId) -> AnalysisStack
+    requires { ⌜ (16 * st .locals ≤ length (now locals)) × (id .0 < st .locals) ⌝ }
+    ensures { λ r. ⌜ UsedObject r (now (locals .entry)) st which (id .0) ⌝ }
+{
+    let touched = touch_object(locals, st, id);
+    let taint = touched.taint;
+    let mut after = st;
+    after.taint = taint;
+    match which {
+        0 => {
+            after.self_used = true;
+        }
+        1 => {
+            after.super_used = true;
+        }
+        _ => {
+            after.dollar_used = true;
+        }
+    }
+    after
+}
+
+// The local of self, super or $ inside an object.
+fn identity_id(which: u32, here: Place) -> LocalId
+    ensures { λ r. ⌜ r .0 ≡ identity-id which here ⌝ }
+{
+    if 2 <= which {
+        return here.dollar_alias;
+    }
+    here.this_local
+}
+
+// Inside an object: `SU`, or the slot of that `this`.
+fn emit_identity(
+    out: &mut [u8],
+    locals: &[u32],
+    frames: &[u32],
+    captures: &mut [u32],
+    limits: Limits,
+    st: AnalysisStack,
+    at: usize,
+    which: u32,
+    id: LocalId,
+) -> Step
+    requires { ⌜ (Kept (st .frames) (now frames) (st .captures) (now captures)) × (16 * limits .«max_captures» ≤ length (now captures)) ⌝ }
+    requires { ⌜ (16 * st .locals ≤ length (now locals)) × (id .0 < st .locals) ⌝ }
+    ensures { λ r. ⌜ IdentityEmitted r (now (out .entry)) (now (out .exit)) (now (locals .entry)) (now (frames .entry)) (now (captures .entry)) (now (captures .exit)) limits st at which (id .0) ⌝ }
+{
+    let after = use_object(locals, st, which, id);
+    if which == 1 {
+        return emit(out, after, at, b"SU", &[]);
+    }
+    emit_slot(out, frames, captures, limits, after, at, id)
+}
+
+// self, super or $: inside an object what it stands for, and outside error 3, 4 or 5 and a bad place.
+pub fn analyze_identity(
+    tree: &[u8],
+    out: &mut [u8],
+    diagnostics: &mut [u8],
+    locals: &[u32],
+    frames: &[u32],
+    captures: &mut [u32],
+    limits: Limits,
+    st: AnalysisStack,
+    at: usize,
+    here: Place,
+) -> Walked
+    requires { ⌜ (at + 10 ≤ length (now tree)) × (number-at (now tree) (at + 2) < 3) × (Stands here st) ⌝ }
+    requires { ⌜ (Kept (st .frames) (now frames) (st .captures) (now captures)) × (16 * limits .«max_captures» ≤ length (now captures)) × (16 * st .locals ≤ length (now locals)) ⌝ }
+    ensures { λ r. ⌜ IdentityAnalyzed r (now (tree .entry)) (now (out .entry)) (now (out .exit)) (now (diagnostics .entry)) (now (diagnostics .exit)) (now (locals .entry)) (now (frames .entry)) (now (captures .entry)) (now (captures .exit)) limits st at here ⌝ }
+{
+    let which = number_at(tree, at + 2);
+    if here.in_object {
+        let id = identity_id(which, here);
+        let emitted = emit_identity(out, locals, frames, captures, limits, st, at, which, id);
+        return behind(emitted, at + 10);
+    }
+    let span = number_at(tree, at + 6);
+    let bad = bad_place(out, diagnostics, st, at, 3 + which, 0, span, which);
+    behind(bad, at + 10)
+}
+
+// A use of a local, of whose changes to the state only the dependence is taken, as above.
+fn use_local(locals: &mut [u32], st: AnalysisStack, depth: u32, id: LocalId) -> AnalysisStack
+    requires { ⌜ (16 * st .locals ≤ length (now locals)) × (id .0 < st .locals) ⌝ }
+    ensures { λ r. ⌜ UsedLocal r (now (locals .entry)) (now (locals .exit)) st depth (id .0) ⌝ }
+{
+    let touched = touch_local(locals, st, depth, id);
+    let taint = touched.taint;
+    let mut after = st;
+    after.taint = taint;
+    after
+}
+
+// The newest local with the name, used and its slot written; where there is none, error 1 and a bad place.
+pub fn analyze_variable(
+    tree: &[u8],
+    out: &mut [u8],
+    diagnostics: &mut [u8],
+    locals: &mut [u32],
+    frames: &[u32],
+    captures: &mut [u32],
+    limits: Limits,
+    st: AnalysisStack,
+    at: usize,
+    here: Place,
+) -> Walked
+    requires { ⌜ (at + 10 ≤ length (now tree)) × (16 * st .locals ≤ length (now locals)) ⌝ }
+    requires { ⌜ (Kept (st .frames) (now frames) (st .captures) (now captures)) × (16 * limits .«max_captures» ≤ length (now captures)) ⌝ }
+    ensures { λ r. ⌜ VariableAnalyzed r (now (tree .entry)) (now (out .entry)) (now (out .exit)) (now (diagnostics .entry)) (now (diagnostics .exit)) (now (locals .entry)) (now (locals .exit)) (now (frames .entry)) (now (captures .entry)) (now (captures .exit)) limits st at here ⌝ }
+{
+    let next = at + 10;
+    let name = number_at(tree, at + 2);
+    let found = newest(locals, name, 0, st.locals as usize);
+    match found {
+        Found::At(id) => {
+            let used = use_local(locals, st, here.depth, id);
+            let emitted = emit_slot(out, frames, captures, limits, used, at, id);
+            behind(emitted, next)
+        }
+        Found::Nothing => {
+            let span = number_at(tree, at + 6);
+            let bad = bad_place(out, diagnostics, st, at, 1, name, span, 3);
+            behind(bad, next)
+        }
+    }
+}
+
+// The path of a literal import, or error 6 and a bad place.
+pub fn analyze_import(
+    tree: &[u8],
+    out: &mut [u8],
+    diagnostics: &mut [u8],
+    st: AnalysisStack,
+    at: usize,
+) -> Walked
+    requires { ⌜ at + 18 ≤ length (now tree) ⌝ }
+    ensures { λ r. ⌜ ImportAnalyzed r (now (tree .entry)) (now (out .entry)) (now (out .exit)) (now (diagnostics .entry)) (now (diagnostics .exit)) st at ⌝ }
+{
+    let span = number_at(tree, at + 6);
+    if number_at(tree, at + 10) != 0 {
+        let numbers = [number_at(tree, at + 2), span, number_at(tree, at + 14)];
+        let written = emit(out, st, at, b"IM", &numbers);
+        return behind(written, at + 18);
+    }
+    let bad = bad_place(out, diagnostics, st, at, 6, 0, span, 4);
+    behind(bad, at + 18)
+}
+
+// The name in a field's head: none where it is computed.
+fn head_name(tree: &[u8], at: usize, kind: u32) -> u32
+    requires { ⌜ at + 26 ≤ length (now tree) ⌝ }
+    ensures { λ r. ⌜ r ≡ choose (is-set kind) (λ _. 0) (λ _. number-at (now (tree .entry)) (at + 6)) ⌝ }
+{
+    if kind != 0 {
+        return 0;
+    }
+    number_at(tree, at + 6)
+}
+
+// A field's head, behind its name where that is computed.
+pub fn emit_head(tree: &[u8], out: &mut [u8], st: AnalysisStack, at: usize, next: usize) -> Walked
+    requires { ⌜ at + 26 ≤ length (now tree) ⌝ }
+    ensures { λ r. ⌜ HeadEmitted r (now (tree .entry)) (now (out .entry)) (now (out .exit)) st at next ⌝ }
+{
+    let kind = number_at(tree, at + 2);
+    let name = head_name(tree, at, kind);
+    let numbers = [
+        kind,
+        name,
+        number_at(tree, at + 14),
+        number_at(tree, at + 18),
+    ];
+    let written = emit(out, st, at, b"FH", &numbers);
+    behind(written, next)
+}
+
+// Whether n bytes more have room behind those that are used.
+fn has_room(out: &[u8], used: usize, n: usize) -> bool
+    ensures { λ r. ⌜ r ≡ leb (used + n) (length (now (out .entry))) ⌝ }
+{
+    if out.len() < n {
+        return false;
+    }
+    used <= out.len() - n
+}
+
+// n bytes of the tree behind those that are used.
+fn copy_bytes(out: &mut [u8], used: usize, tree: &[u8], at: usize, n: usize)
+    requires { ⌜ (used + n ≤ length (now out)) × (at + n ≤ length (now tree)) ⌝ }
+    ensures { λ _. ⌜ now (out .exit) ≡ sets (now (out .entry)) used (take n (drop at (now (tree .entry)))) ⌝ }
+{
+    let mut i = 0;
+    while i < n {
+        out[used + i] = tree[at + i];
+        i += 1;
+    }
+}
+
+// A record of the tree that is the output's too, or refusal 9.
+pub fn copy_record(
+    tree: &[u8],
+    out: &mut [u8],
+    st: AnalysisStack,
+    at: usize,
+    next: usize,
+    mark: u32,
+) -> Walked
+    requires { ⌜ (at + size-of (mark-of mark) ≤ length (now tree)) × (code-at (now tree) at ≡ code (mark-of mark)) ⌝ }
+    ensures { λ r. ⌜ RecordCopied r (now (tree .entry)) (now (out .entry)) (now (out .exit)) st at next mark ⌝ }
+{
+    let size = size_of(mark);
+    if has_room(out, st.out, size) {
+        let end = st.out + size;
+        copy_bytes(out, st.out, tree, at, size);
+        let mut after = st;
+        after.out = end;
+        return Walked::To(after, next);
+    }
+    Walked::Refused(9, at)
+}
+
+// The values of n constants, of six bytes each, behind the bytes that are used.
+fn copy_values(out: &mut [u8], used: usize, tree: &[u8], at: usize, n: usize)
+    requires { ⌜ (used + 4 * n ≤ length (now out)) × (at + 6 * n ≤ length (now tree)) ⌝ }
+    ensures { λ _. ⌜ now (out .exit) ≡ sets (now (out .entry)) used (numbers-bytes (values-from (now (tree .entry)) n at)) ⌝ }
+{
+    let mut i = 0;
+    while i < n {
+        copy_bytes(out, used + 4 * i, tree, at + 6 * i + 2, 4);
+        i += 1;
+    }
+}
+
+// An array of n constants as one record, or refusal 9 where the whole of it has no room.
+pub fn emit_constants(tree: &[u8], out: &mut [u8], st: AnalysisStack, at: usize, n: usize) -> Walked
+    requires { ⌜ (at + 6 + 6 * n ≤ length (now tree)) × (n < 4294967296) ⌝ }
+    ensures { λ r. ⌜ ConstantsEmitted r (now (tree .entry)) (now (out .entry)) (now (out .exit)) st at n ⌝ }
+{
+    let next = at + 6 + 6 * n;
+    let size = 6 + 4 * n;
+    if has_room(out, st.out, size) {
+        let end = st.out + size;
+        put_record(out, st.out, b"AC", &[n as u32]);
+        copy_values(out, st.out + 6, tree, at + 6, n);
+        let mut after = st;
+        after.out = end;
+        return Walked::To(after, next);
+    }
+    Walked::Refused(9, at)
+}

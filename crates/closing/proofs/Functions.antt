@@ -1,0 +1,310 @@
+-- Laws of a function's end: whether it gives its argument, and its record. Assumes nothing.
+use Prim.Native.Nat.{ℕ, zero, suc, _+_, _-_, _≤_, _<_}
+use mathlib.Core.Bool.{Bool, true, false}
+use mathlib.Core.List.{List, [], _∷_, _++_}
+use mathlib.Core.Path.{_≡_, refl, sym, ap, _∙_}
+use native.Mathlib.Nat.{zero-add, suc-add}
+use native.Mathlib.Omega.{arith}
+use lib.Dec.{eqb}
+use lib.ListN.{length, take, drop, getD, length-drop}
+use lib.Seq.{length-take-le, take-all, take-take, take-nil, drop-cons}
+use borrow.Author.Tests.{eq-eqb, ne-eqb}
+use Rattle.rules.specs.Outcome.{Outcome, ok, refuse, _>>=_, choose}
+use Rattle.rules.specs.Numbers.{LS, IY, FN, code, same-bytes, mark-bytes, number-bytes, numbers-bytes, record-bytes}
+use Rattle.rules.specs.Records.{Span}
+use Rattle.rules.specs.State as rules
+use Rattle.rules.specs.Writing as writing
+use Rattle.rules.specs.Scoping as scoping
+use Rattle.rules.specs.Walk as walk
+use Rattle.runs.specs.Steps.{and-place, gives-argument, finished-function}
+use Rattle.state.specs.Seen.{span-of, Buffers, buffers, stack, seen, limits-of}
+use Rattle.state.specs.Walks.{naming-of, Walks, Steps}
+use Rattle.state.specs.declared.AnalysisStack.{AnalysisStack}
+use Rattle.state.specs.declared.Limits.{Limits}
+use Rattle.state.specs.declared.Naming.{Naming}
+use Rattle.state.specs.declared.Step.{Step}
+use Rattle.state.specs.declared.Step.the-variants.{Ok, Refused}
+use Rattle.state.specs.declared.Walked.{Walked}
+use Rattle.state.specs.declared.Walked.the-variants as walked-as
+use Rattle.writing.specs.Answers.{level-of, Emitted, Reported}
+use Rattle.writing.specs.declared.Level.the-variants.{Warning}
+use Rattle.writing.proofs.Laws.{limits-same}
+use Rattle.closing.specs.Answers.{AndPlace, TakenBack, IdentityNamed, OtherNamed, FunctionNamed}
+use Rattle.closing.proofs.Recording.{walks-on, walks-nowhere, emit-steps}
+
+-- Six bytes that are the record of slot 0
+
+module _ (l : List ℕ) (at : ℕ) (inside : at + 6 ≤ length l) where
+  abbrev record-there : Bool
+  record-there = same-bytes (take 6 (drop at l)) (record-bytes LS (0 ∷ []))
+
+  one-more : (k : ℕ) → k < 6 → drop (at + k) l ≡ getD l (at + k) 0 ∷ drop (at + suc k) l
+  one-more k h = let e : at + suc k ≡ suc (at + k) = omega arith in rw e (drop-cons l (at + k) 0 (omega arith))
+
+  first-more : drop at l ≡ getD l at 0 ∷ drop (at + 1) l
+  first-more = let e : at + 1 ≡ suc at = omega arith in rw e (drop-cons l at 0 (omega arith))
+
+  six : take 6 (drop at l) ≡ getD l at 0 ∷ getD l (at + 1) 0 ∷ getD l (at + 2) 0 ∷ getD l (at + 3) 0 ∷ getD l (at + 4) 0 ∷ getD l (at + 5) 0 ∷ []
+  six = rw (first-more, one-more 1 (omega arith), one-more 2 (omega arith), one-more 3 (omega arith), one-more 4 (omega arith), one-more 5 (omega arith)) refl
+
+  abbrev then-is : (byte wanted : ℕ) → Bool → Bool
+  then-is byte wanted more = choose (eqb byte wanted) (λ _. more) (λ _. false)
+
+  tests : record-there
+      ≡ then-is (getD l at 0) 0x4c (then-is (getD l (at + 1) 0) 0x53 (then-is (getD l (at + 2) 0) 0 (then-is (getD l (at + 3) 0) 0 (then-is (getD l (at + 4) 0) 0 (then-is (getD l (at + 5) 0) 0 true)))))
+  unfolding same-bytes record-bytes mark-bytes code numbers-bytes number-bytes
+  tests = ap (λ bs. same-bytes bs (record-bytes LS (0 ∷ []))) six
+
+  last-is : (b : Bool) → choose b (λ _. true) (λ _. false) ≡ b
+  unfolding choose
+  last-is true = refl
+  last-is false = refl
+
+  pub other-mark : (getD l at 0 ≡ 0x4c → ⊥) → false ≡ record-there
+  unfolding choose
+  other-mark n = sym (tests ∙ rw (ne-eqb (getD l at 0) 0x4c n) refl)
+
+  module _ (e₀ : getD l at 0 ≡ 0x4c) where
+    pub other-letter : (getD l (at + 1) 0 ≡ 0x53 → ⊥) → false ≡ record-there
+    unfolding choose
+    other-letter n = sym (tests ∙ rw (eq-eqb (getD l at 0) 0x4c e₀, ne-eqb (getD l (at + 1) 0) 0x53 n) refl)
+
+    module _ (e₁ : getD l (at + 1) 0 ≡ 0x53) where
+      pub other-first : (getD l (at + 2) 0 ≡ 0 → ⊥) → false ≡ record-there
+      unfolding choose
+      other-first n = sym (tests ∙ rw (eq-eqb (getD l at 0) 0x4c e₀, eq-eqb (getD l (at + 1) 0) 0x53 e₁, ne-eqb (getD l (at + 2) 0) 0 n) refl)
+
+      module _ (e₂ : getD l (at + 2) 0 ≡ 0) where
+        pub other-second : (getD l (at + 3) 0 ≡ 0 → ⊥) → false ≡ record-there
+        unfolding choose
+        other-second n =
+            sym (tests ∙ rw (eq-eqb (getD l at 0) 0x4c e₀, eq-eqb (getD l (at + 1) 0) 0x53 e₁, eq-eqb (getD l (at + 2) 0) 0 e₂, ne-eqb (getD l (at + 3) 0) 0 n) refl)
+
+        module _ (e₃ : getD l (at + 3) 0 ≡ 0) where
+          pub other-third : (getD l (at + 4) 0 ≡ 0 → ⊥) → false ≡ record-there
+          unfolding choose
+          other-third n =
+              sym (tests
+              ∙ rw (eq-eqb (getD l at 0) 0x4c e₀, eq-eqb (getD l (at + 1) 0) 0x53 e₁, eq-eqb (getD l (at + 2) 0) 0 e₂, eq-eqb (getD l (at + 3) 0) 0 e₃, ne-eqb (getD l (at + 4) 0) 0 n) refl)
+
+          pub by-last : getD l (at + 4) 0 ≡ 0 → eqb (getD l (at + 5) 0) 0 ≡ record-there
+          unfolding choose
+          by-last e₄ =
+              sym (tests
+              ∙ rw (eq-eqb (getD l at 0) 0x4c e₀, eq-eqb (getD l (at + 1) 0) 0x53 e₁, eq-eqb (getD l (at + 2) 0) 0 e₂, eq-eqb (getD l (at + 3) 0) 0 e₃, eq-eqb (getD l (at + 4) 0) 0 e₄)
+              (last-is (eqb (getD l (at + 5) 0) 0)))
+
+-- Whether a function gives its argument
+
+other-length : (xs ys : List ℕ) → (length xs ≡ length ys → ⊥) → same-bytes xs ys ≡ false
+unfolding same-bytes choose
+other-length [] [] n = absurd (n refl)
+other-length [] (y ∷ ys) n = refl
+other-length (x ∷ xs) [] n = refl
+other-length (x ∷ xs) (y ∷ ys) n = by (eqb x y) (other-length xs ys (λ e. n (ap suc e)))
+  where
+    by : (b : Bool) → same-bytes xs ys ≡ false → choose b (λ _. same-bytes xs ys) (λ _. false) ≡ false
+    by true e = e
+    by false e = refl
+
+drop-take : {A : Type 0} (m n : ℕ) (l : List A) → drop m (take (m + n) l) ≡ take n (drop m l)
+drop-take zero n l = ap (λ (k : ℕ). take k l) (zero-add n)
+drop-take (suc m) n [] = ap (drop (suc m)) (take-nil (suc m + n)) ∙ sym (take-nil n)
+drop-take (suc m) n (x ∷ l) = ap (λ (k : ℕ). drop (suc m) (take k (x ∷ l))) (suc-add m n) ∙ drop-take m n l
+
+module _ (defaults : Bool) (kept start to : ℕ) (out : List ℕ) where
+  abbrev gives : Bool
+  gives = gives-argument defaults kept (drop start (take to out))
+
+  pub keeps-other : (kept ≡ 1 → ⊥) → false ≡ gives
+  unfolding gives-argument
+  keeps-other n = sym (rw (ne-eqb kept 1 n) refl)
+
+  module _ (one : kept ≡ 1) where
+    pub has-default : defaults ≡ true → false ≡ gives
+    unfolding gives-argument
+    has-default e = sym (rw (eq-eqb kept 1 one, e) refl)
+
+    module _ (none : defaults ≡ false) where
+      by-body : gives ≡ same-bytes (drop start (take to out)) (record-bytes LS (0 ∷ []))
+      unfolding gives-argument
+      by-body = rw (eq-eqb kept 1 one, none) refl
+
+      module _ (within : to ≤ length out) where
+        body-long : length (drop start (take to out)) ≡ to - start
+        body-long = length-drop start (take to out) ∙ ap (λ (n : ℕ). n - start) (length-take-le to out within)
+
+        pub body-other : (to - start ≡ 6 → ⊥) → false ≡ gives
+        unfolding record-bytes mark-bytes code numbers-bytes number-bytes
+        body-other n = sym (by-body ∙ other-length (drop start (take to out)) (record-bytes LS (0 ∷ [])) (λ e. n (sym body-long ∙ e)))
+
+        pub body-six : to - start ≡ 6 → {r : Bool} → r ≡ same-bytes (take 6 (drop start out)) (record-bytes LS (0 ∷ [])) → r ≡ gives
+        body-six e is =
+            let end : to ≡ start + 6 = omega arith in
+            is ∙ sym (by-body ∙ ap (λ bs. same-bytes bs (record-bytes LS (0 ∷ []))) (ap (λ (n : ℕ). drop start (take n out)) end ∙ drop-take start 6 out))
+
+-- Output taken back
+
+module _ (st : AnalysisStack) (start : ℕ) where
+  pub not-so-far : st .out ≤ start → TakenBack st st start
+  unfolding stack rules.taken-back rules.with-out rules.with-sink
+  not-so-far h = record {
+    becomes = λ l b f. record {
+      same = ap (λ bytes. rules.with-out bytes (stack b st)) (sym (take-all start (take (st .out) (b .out)) (omega (arith, length-take-le (st .out) (b .out) (f .out-long)))));
+      fit = f;
+    };
+  }
+
+  abbrev pub back : AnalysisStack
+  back = record {
+    locals = st .locals;
+    frames = st .frames;
+    captures = st .captures;
+    references = st .references;
+    out = start;
+    diagnostics = st .diagnostics;
+    «self_used» = st .«self_used»;
+    «super_used» = st .«super_used»;
+    «dollar_used» = st .«dollar_used»;
+    taint = st .taint;
+    errored = st .errored;
+    rounds = st .rounds;
+  }
+
+  pub so-far : start < st .out → TakenBack back st start
+  unfolding stack rules.taken-back rules.with-out rules.with-sink
+  so-far h = record {
+    becomes = λ l b f. record {
+      same = ap (λ bytes. rules.with-out bytes (stack b st)) (sym (take-take start (st .out) (b .out) (omega arith)));
+      fit = record {
+        locals-long = f .locals-long;
+        frames-long = f .frames-long;
+        captures-long = f .captures-long;
+        references-long = f .references-long;
+        few-locals = f .few-locals;
+        few-frames = f .few-frames;
+        few-captures = f .few-captures;
+        few-references = f .few-references;
+        out-long = omega (arith, f .out-long);
+        diagnostics-long = f .diagnostics-long;
+        frames-kept = f .frames-kept;
+        first-there = f .first-there;
+        first-rises = f .first-rises;
+      };
+    };
+  }
+
+-- The record
+
+module _ (limits : rules.Limits) (place : ℕ) (span : Span) (start kept : ℕ) (naming : walk.Naming) (S : rules.AnalysisStack) where
+  goes-on : (T : rules.AnalysisStack) → ok T ≡ writing.report limits place writing.warning 10 0 (walk.naming-span naming span) S
+      → walk.finish-function limits place span start kept naming true S ≡ writing.emit limits place IY [] (rules.taken-back start T)
+  unfolding walk.finish-function choose _>>=_
+  goes-on T e = ap (λ (o : Outcome rules.AnalysisStack). o >>= λ st. writing.emit limits place IY [] (rules.taken-back start st)) (sym e)
+
+  stops : (why at : ℕ) → refuse why at ≡ writing.report limits place writing.warning 10 0 (walk.naming-span naming span) S
+      → walk.finish-function limits place span start kept naming true S ≡ refuse why at
+  unfolding walk.finish-function choose _>>=_
+  stops why at e = ap (λ (o : Outcome rules.AnalysisStack). o >>= λ st. writing.emit limits place IY [] (rules.taken-back start st)) (sym e)
+
+module _ (out : List ℕ) {diagnostics diagnostics′ : List ℕ} (st : AnalysisStack) (place span start : ℕ) (naming : Naming) {shown : ℕ}
+    (shows : span-of shown ≡ walk.naming-span (naming-of naming) (span-of span)) {r₁ : Step}
+    (reported : Reported r₁ diagnostics diagnostics′ st place Warning 10 0 shown) where
+  reported-is : (l : Limits) (ls fs cs rs : List ℕ) (limits : rules.Limits) → limits ≡ limits-of l out diagnostics
+      → seen r₁ (buffers out diagnostics′ ls fs cs rs)
+      ≡ writing.report limits place writing.warning 10 0 (walk.naming-span (naming-of naming) (span-of span)) (stack (buffers out diagnostics ls fs cs rs) st)
+  unfolding level-of
+  reported-is l ls fs cs rs limits at =
+      reported .same l out ls fs cs rs
+      ∙ ap (λ (k : rules.Limits). writing.report k place writing.warning 10 0 (span-of shown) (stack (buffers out diagnostics ls fs cs rs) st)) (sym at)
+      ∙ ap (λ (s : Span). writing.report limits place writing.warning 10 0 s (stack (buffers out diagnostics ls fs cs rs) st)) shows
+
+  pub identity-refused : {why p : ℕ} → r₁ ≡ Refused why p → IdentityNamed (Refused why p) out out diagnostics diagnostics′ st place span start naming
+  identity-refused {why} {p} is = record {
+    steps = λ kept l ls fs cs rs f. record {
+      same = λ limits at.
+          sym (stops limits place (span-of span) start kept (naming-of naming) (stack (buffers out diagnostics ls fs cs rs) st) why p (rw is at (reported-is l ls fs cs rs limits at)));
+      fit = tt;
+    };
+  }
+
+  pub identity-named : {st₁ st₂ : AnalysisStack} {out′ : List ℕ} {r : Step} → r₁ ≡ Ok st₁ → length diagnostics′ ≡ length diagnostics → TakenBack st₂ st₁ start
+      → Emitted r out out′ st₂ place (0x49 ∷ 0x59 ∷ []) [] → IdentityNamed r out out′ diagnostics diagnostics′ st place span start naming
+  unfolding mark-bytes code
+  identity-named {st₁} {st₂} {out′} {r} is size taken emitted = record {
+    steps = λ kept l ls fs cs rs f.
+        let b₁ = buffers out diagnostics′ ls fs cs rs in
+        let became = taken .becomes l b₁ (rw is at (reported .fit l out ls fs cs rs f)) in
+        let wrote = emit-steps IY l diagnostics′ ls fs cs rs refl emitted (became .fit) in
+        record {
+          same = λ limits at.
+              wrote .same limits (at ∙ sym (limits-same l out out diagnostics diagnostics′ refl size))
+              ∙ ap (writing.emit limits place IY []) (became .same)
+              ∙ sym (goes-on limits place (span-of span) start kept (naming-of naming) (stack (buffers out diagnostics ls fs cs rs) st) (stack b₁ st₁)
+              (rw is at (reported-is l ls fs cs rs limits at)));
+          fit = wrote .fit;
+        };
+  }
+
+pub other-named : {r : Step} {out out′ : List ℕ} {st : AnalysisStack} {place : ℕ} {ns : List ℕ} (kept : ℕ) (naming : Naming)
+    → Emitted r out out′ st place (0x46 ∷ 0x4e ∷ []) ns → ns ≡ walk.naming-numbers (naming-of naming) ++ (kept ∷ []) → OtherNamed r out out′ st place kept naming
+unfolding walk.finish-function choose mark-bytes code
+other-named {r} {out} {out′} {st} {place} {ns} kept naming emitted numbered = record {
+  steps = λ span start l ds ls fs cs rs f.
+      let wrote = emit-steps FN l ds ls fs cs rs refl emitted f in
+      record {
+        same = λ limits at.
+            wrote .same limits at ∙ ap (λ (k : List ℕ). writing.emit limits place FN k (stack (buffers out ds ls fs cs rs) st)) numbered;
+        fit = wrote .fit;
+      };
+}
+
+module _ {r : Step} {out out′ diagnostics : List ℕ} {st : AnalysisStack} {place : ℕ} (span start kept : ℕ) {naming : Naming} {gives : Bool} where
+  pub by-identity : {diagnostics′ : List ℕ} → gives ≡ true → IdentityNamed r out out′ diagnostics diagnostics′ st place span start naming
+      → FunctionNamed r out out′ diagnostics diagnostics′ st place span start kept naming gives
+  by-identity is named = rw is record { steps = named .steps kept }
+
+  pub by-other : gives ≡ false → OtherNamed r out out′ st place kept naming → FunctionNamed r out out′ diagnostics diagnostics st place span start kept naming gives
+  by-other is named = rw is record { steps = λ l ls fs cs rs f. named .steps span start l diagnostics ls fs cs rs f }
+
+-- Behind the frame's end
+
+module _ {l : Limits} {out out₁ diagnostics diagnostics₁ locals locals₁ frames captures captures₁ references : List ℕ} {st : AnalysisStack}
+    (place kept before next span start body-start : ℕ) (defaults : Bool) (naming : Naming) {gives : Bool}
+    (told : gives ≡ gives-argument defaults kept (drop body-start (take (st .out) out))) {r₁ : Step}
+    (finished : Steps r₁ l (buffers out diagnostics locals frames captures references) (buffers out₁ diagnostics₁ locals₁ frames captures₁ references) st
+    (λ limits. scoping.finish-frame limits place kept before)) where
+  abbrev b : Buffers
+  b = buffers out diagnostics locals frames captures references
+
+  abbrev b₁ : Buffers
+  b₁ = buffers out₁ diagnostics₁ locals₁ frames captures₁ references
+
+  abbrev named-so : rules.Limits → rules.AnalysisStack → Outcome rules.AnalysisStack
+  named-so limits = walk.finish-function limits place (span-of span) start kept (naming-of naming) gives
+
+  -- what was told before the frame's end is what the rules ask
+  as-told : {w : Walked} {b₂ : Buffers} → Walks w l b b₂ st (λ limits S. scoping.finish-frame limits place kept before S >>= λ T. and-place next (named-so limits T))
+      → Walks w l b b₂ st (λ limits. finished-function limits place (span-of span) start body-start kept before defaults (naming-of naming) next)
+  unfolding finished-function stack
+  as-told walks = record {
+    same = λ limits at.
+        walks .same limits at
+        ∙ ap (λ (g : Bool). scoping.finish-frame limits place kept before (stack b st) >>= λ T. and-place next (walk.finish-function limits place (span-of span) start kept (naming-of naming) g T)) told;
+    fit = walks .fit;
+  }
+
+  pub function-refused : {why p : ℕ} → r₁ ≡ Refused why p
+      → Walks (walked-as.Refused why p) l b b₁ st (λ limits. finished-function limits place (span-of span) start body-start kept before defaults (naming-of naming) next)
+  function-refused is =
+      as-told (walks-nowhere (λ limits. scoping.finish-frame limits place kept before) l b b₁ st finished (λ limits T. and-place next (named-so limits T)) is)
+
+  pub function-finished : {st₁ : AnalysisStack} {out₂ diagnostics₂ : List ℕ} {r : Step} {w : Walked} → r₁ ≡ Ok st₁
+      → length out₁ ≡ length out → length diagnostics₁ ≡ length diagnostics
+      → FunctionNamed r out₁ out₂ diagnostics₁ diagnostics₂ st₁ place span start kept naming gives → AndPlace w r next
+      → Walks w l b (buffers out₂ diagnostics₂ locals₁ frames captures₁ references) st
+      (λ limits. finished-function limits place (span-of span) start body-start kept before defaults (naming-of naming) next)
+  function-finished {st₁} {out₂} {diagnostics₂} is size size′ named placed =
+      as-told (walks-on (λ limits. scoping.finish-frame limits place kept before) l b b₁ st finished named-so
+      (buffers out₂ diagnostics₂ locals₁ frames captures₁ references) next is (limits-same l out out₁ diagnostics diagnostics₁ size size′)
+      (named .steps l locals₁ frames captures₁ references) placed)

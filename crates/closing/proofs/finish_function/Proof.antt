@@ -1,0 +1,74 @@
+-- `finish_function` is the rules' end of a frame and of a function. Assumes nothing.
+use Rattle.closing.proofs.Functions.{function-finished, function-refused}
+use borrow.Author.Needs.{needs}
+use Rattle.closing.proofs.finish_function.Statement.{statement}
+use Rattle.closing.proofs.finish_function.Tie as tie
+
+gives-argument-requires : tie.Need-gives-argument-requires
+gives-argument-requires c κs = search needs
+
+finish-frame-requires : tie.Need-finish-frame-requires
+finish-frame-requires c κs = search needs
+
+enum-known-finished : tie.Need-enum-known-finished
+enum-known-finished c = search needs
+
+name-function-requires : tie.Need-name-function-requires
+name-function-requires c κs = search needs
+
+and-place-requires : tie.Need-and-place-requires
+and-place-requires c κs = search needs
+
+enum-known-finished-2 : tie.Need-enum-known-finished-2
+enum-known-finished-2 c = search needs
+
+same-length : tie.Need-same-length
+same-length c = search needs
+
+same-length-2 : tie.Need-same-length-2
+same-length-2 c = search needs
+
+same-length-3 : tie.Need-same-length-3
+same-length-3 c = search needs
+
+same-length-4 : tie.Need-same-length-4
+same-length-4 c = search needs
+
+returns : tie.Need-returns
+returns c = function-finished _ _ _ _ _ _ _ _ _ (c .before .before .before .before .before .before .before .before .before .before .before .before .before .before .before .before .before .before .before .before .before .before .before .before .gives-argument .ensures) (c .before .before .before .before .before .before .before .before .before .before .before .before .before .before .before .before .before .before .before .finish-frame .ensures) (c .before .before .before .before .before .before .before .before .before .finished .given .1) (c .before .before .before .before .before .before .before .before .before .before .before .before .before .before .before .before .before .before .before .finish-frame .kept .0) (c .before .before .before .before .before .before .before .before .before .before .before .before .before .before .before .before .before .before .before .finish-frame .kept .1 .0) (c .before .before .before .before .before .name-function .ensures) (c .and-place .ensures)
+
+same-length-5 : tie.Need-same-length-5
+same-length-5 c = search needs
+
+same-length-6 : tie.Need-same-length-6
+same-length-6 c = search needs
+
+same-length-7 : tie.Need-same-length-7
+same-length-7 c = search needs
+
+same-length-8 : tie.Need-same-length-8
+same-length-8 c = search needs
+
+returns-2 : tie.Need-returns-2
+returns-2 c = function-refused _ _ _ _ _ _ _ _ _ (c .before .before .before .before .before .before .before .before .before .before .before .before .before .before .before .before .gives-argument .ensures) (c .before .before .before .before .before .before .before .before .before .before .before .finish-frame .ensures) (c .before .finished2 .given .1)
+
+pub finish-function-spec : {M : Type 1} → statement M
+finish-function-spec =
+    tie.close
+    (tie.spec
+    gives-argument-requires
+    finish-frame-requires
+    enum-known-finished
+    name-function-requires
+    and-place-requires
+    enum-known-finished-2
+    same-length
+    same-length-2
+    same-length-3
+    same-length-4
+    returns
+    same-length-5
+    same-length-6
+    same-length-7
+    same-length-8
+    returns-2)

@@ -1,0 +1,2 @@
+-- What the walkers' contracts cite beside the rules.
+pub mod Ready

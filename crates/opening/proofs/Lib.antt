@@ -1,0 +1,6 @@
+-- What the proofs of several functions use.
+pub mod Laws
+pub mod Reading
+pub mod Turns
+pub mod Beginning
+pub mod Static

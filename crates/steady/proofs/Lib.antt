@@ -1,0 +1,6 @@
+-- What is shown of the rules' analysis.
+pub mod Keeping
+pub mod Steps
+pub mod Steady
+pub mod Weighing
+pub mod Places

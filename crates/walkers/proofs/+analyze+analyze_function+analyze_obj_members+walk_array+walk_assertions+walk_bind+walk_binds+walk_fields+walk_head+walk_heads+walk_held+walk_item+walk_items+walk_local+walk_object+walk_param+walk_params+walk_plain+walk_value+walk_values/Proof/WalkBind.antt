@@ -1,0 +1,565 @@
+-- The walk over a bind: each need of its code, answered from the laws of joins. Assumes nothing.
+use Prim.Native.Nat.{ℕ, _-_}
+use borrow.Author.Needs.{needs}
+use native.Mathlib.Omega.{arith}
+use mathlib.Core.Path.{refl, _∙_}
+use Rattle.rules.specs.Numbers.{code}
+use Rattle.runs.proofs.Lists.{bind-fits, bind-value}
+use Rattle.state.specs.Seen.{stack}
+use Rattle.keeping.specs.Answers.{spec-mark, spec-numbers}
+use Rattle.state.specs.Walks.{place-of, naming-of}
+use Rattle.joins.proofs.Joining.{valueless, specless, went-fit}
+use Rattle.joins.proofs.Readiness.{ready-on}
+use Rattle.joins.proofs.Onward.{ready-value, longer-value}
+use Rattle.joins.proofs.Asking.{opened, written-counted}
+use Rattle.joins.proofs.Returns.{bind-unopened, bind-stopped, bind-ended}
+use Rattle.walkers.proofs.analyze.Reads as analyze
+use Rattle.walkers.proofs.walk_bind.Reads as walk-bind
+use Rattle.walkers.proofs.+analyze+analyze_function+analyze_obj_members+walk_array+walk_assertions+walk_bind+walk_binds+walk_fields+walk_head+walk_heads+walk_held+walk_item+walk_items+walk_local+walk_object+walk_param+walk_params+walk_plain+walk_value+walk_values.Lts-walk_bind as walk-bind-lts
+use Rattle.keeping.proofs.close_spec.Reads as close-spec-reads
+use Rattle.opening.proofs.bind_naming.Reads as bind-naming-reads
+use Rattle.opening.proofs.open_value.Reads as open-value-reads
+use Rattle.walkers.proofs.no_spec.Reads as no-spec-reads
+use Rattle.walkers.proofs.no_value.Reads as no-value-reads
+use Rattle.walkers.proofs.+analyze+analyze_function+analyze_obj_members+walk_array+walk_assertions+walk_bind+walk_binds+walk_fields+walk_head+walk_heads+walk_held+walk_item+walk_items+walk_local+walk_object+walk_param+walk_params+walk_plain+walk_value+walk_values.Proof.Measures.{analyze-below, walk-bind-at}
+
+walk-bind-open-value-requires : (t : ℕ) → walk-bind-lts.Need-open-value-requires (
+  open-value-reads.Asked,
+  open-value-reads.Learnt,
+  no-value-reads.Asked,
+  no-value-reads.Learnt,
+  bind-naming-reads.Asked,
+  bind-naming-reads.Learnt,
+  analyze-below t,
+  analyze.Post,
+  no-spec-reads.Asked,
+  no-spec-reads.Learnt,
+  close-spec-reads.Asked,
+  close-spec-reads.Learnt,
+) (walk-bind-at t) walk-bind.Post
+unfolding naming-of
+walk-bind-open-value-requires t c κs =
+    let pre· = c .before .before .before .before .before .before .before .before .pre in
+    (pre· .1 .0) .fit .frames-long
+
+walk-bind-enum-known-opened : (t : ℕ) → walk-bind-lts.Need-enum-known-opened (
+  open-value-reads.Asked,
+  open-value-reads.Learnt,
+  no-value-reads.Asked,
+  no-value-reads.Learnt,
+  bind-naming-reads.Asked,
+  bind-naming-reads.Learnt,
+  analyze-below t,
+  analyze.Post,
+  no-spec-reads.Asked,
+  no-spec-reads.Learnt,
+  close-spec-reads.Asked,
+  close-spec-reads.Learnt,
+) (walk-bind-at t) walk-bind.Post
+walk-bind-enum-known-opened t c = search needs
+
+walk-bind-enum-told : (t : ℕ) → walk-bind-lts.Need-enum-told (
+  open-value-reads.Asked,
+  open-value-reads.Learnt,
+  no-value-reads.Asked,
+  no-value-reads.Learnt,
+  bind-naming-reads.Asked,
+  bind-naming-reads.Learnt,
+  analyze-below t,
+  analyze.Post,
+  no-spec-reads.Asked,
+  no-spec-reads.Learnt,
+  close-spec-reads.Asked,
+  close-spec-reads.Learnt,
+) (walk-bind-at t) walk-bind.Post
+walk-bind-enum-told t c = search needs
+
+walk-bind-no-value-requires : (t : ℕ) → walk-bind-lts.Need-no-value-requires (
+  open-value-reads.Asked,
+  open-value-reads.Learnt,
+  no-value-reads.Asked,
+  no-value-reads.Learnt,
+  bind-naming-reads.Asked,
+  bind-naming-reads.Learnt,
+  analyze-below t,
+  analyze.Post,
+  no-spec-reads.Asked,
+  no-spec-reads.Learnt,
+  close-spec-reads.Asked,
+  close-spec-reads.Learnt,
+) (walk-bind-at t) walk-bind.Post
+walk-bind-no-value-requires t c κs = search needs
+
+walk-bind-same-length : (t : ℕ) → walk-bind-lts.Need-same-length (
+  open-value-reads.Asked,
+  open-value-reads.Learnt,
+  no-value-reads.Asked,
+  no-value-reads.Learnt,
+  bind-naming-reads.Asked,
+  bind-naming-reads.Learnt,
+  analyze-below t,
+  analyze.Post,
+  no-spec-reads.Asked,
+  no-spec-reads.Learnt,
+  close-spec-reads.Asked,
+  close-spec-reads.Learnt,
+) (walk-bind-at t) walk-bind.Post
+walk-bind-same-length t c = c .before .before .before .before .before .open-value .kept .0
+
+walk-bind-returns : (t : ℕ) → walk-bind-lts.Need-returns (
+  open-value-reads.Asked,
+  open-value-reads.Learnt,
+  no-value-reads.Asked,
+  no-value-reads.Learnt,
+  bind-naming-reads.Asked,
+  bind-naming-reads.Learnt,
+  analyze-below t,
+  analyze.Post,
+  no-spec-reads.Asked,
+  no-spec-reads.Learnt,
+  close-spec-reads.Asked,
+  close-spec-reads.Learnt,
+) (walk-bind-at t) walk-bind.Post
+unfolding naming-of
+walk-bind-returns t c =
+    let args· = c .before .before .before .before .before .before .before .before .before .before .before .before .before .before .args in
+    let pre· = c .before .before .before .before .before .before .before .before .before .before .before .before .before .before .pre in
+    let open-value· = c .before .before .before .before .before .open-value in
+    let enum-told· = c .before .enum-told in
+    let no-value· = c .no-value in
+    bind-unopened (args· .tree .now) (args· .nest) (args· .at) (args· .base) (args· .kept) ((pre· .1 .1) .0) (place-of (args· .here)) (open-value· .ensures .opened _ _ _ _ _ ((pre· .1 .0) .fit)) (enum-told· .given .1) (valueless (no-value· .ensures) (enum-told· .given .1))
+
+walk-bind-add-analyze : (t : ℕ) → walk-bind-lts.Need-add-analyze (
+  open-value-reads.Asked,
+  open-value-reads.Learnt,
+  no-value-reads.Asked,
+  no-value-reads.Learnt,
+  bind-naming-reads.Asked,
+  bind-naming-reads.Learnt,
+  analyze-below t,
+  analyze.Post,
+  no-spec-reads.Asked,
+  no-spec-reads.Learnt,
+  close-spec-reads.Asked,
+  close-spec-reads.Learnt,
+) (walk-bind-at t) walk-bind.Post
+walk-bind-add-analyze t c =
+    let args· = c .before .before .before .before .before .before .before .before .before .before .before .before .before .before .before .before .before .before .before .before .args in
+    let pre· = c .before .before .before .before .before .before .before .before .before .before .before .before .before .before .before .before .before .before .before .before .pre in
+    omega (arith, (bind-fits (args· .tree .now) (args· .nest) (args· .at) ((pre· .1 .1) .0)), (pre· .1 .0) .short)
+
+walk-bind-bind-naming-requires : (t : ℕ) → walk-bind-lts.Need-bind-naming-requires (
+  open-value-reads.Asked,
+  open-value-reads.Learnt,
+  no-value-reads.Asked,
+  no-value-reads.Learnt,
+  bind-naming-reads.Asked,
+  bind-naming-reads.Learnt,
+  analyze-below t,
+  analyze.Post,
+  no-spec-reads.Asked,
+  no-spec-reads.Learnt,
+  close-spec-reads.Asked,
+  close-spec-reads.Learnt,
+) (walk-bind-at t) walk-bind.Post
+unfolding naming-of
+walk-bind-bind-naming-requires t c κs =
+    let args· = c .before .before .before .before .before .before .before .before .before .before .before .before .before .before .before .before .before .before .before .before .args in
+    let pre· = c .before .before .before .before .before .before .before .before .before .before .before .before .before .before .before .before .before .before .before .before .pre in
+    (bind-fits (args· .tree .now) (args· .nest) (args· .at) ((pre· .1 .1) .0))
+
+walk-bind-analyze-requires : (t : ℕ) → walk-bind-lts.Need-analyze-requires (
+  open-value-reads.Asked,
+  open-value-reads.Learnt,
+  no-value-reads.Asked,
+  no-value-reads.Learnt,
+  bind-naming-reads.Asked,
+  bind-naming-reads.Learnt,
+  analyze-below t,
+  analyze.Post,
+  no-spec-reads.Asked,
+  no-spec-reads.Learnt,
+  close-spec-reads.Asked,
+  close-spec-reads.Learnt,
+) (walk-bind-at t) walk-bind.Post
+unfolding naming-of
+walk-bind-analyze-requires t c κs =
+    let pre· = c .before .before .before .before .before .before .before .before .before .before .before .before .before .before .before .before .before .before .before .before .before .pre in
+    let args· = c .before .before .before .before .before .before .before .before .before .before .before .before .before .before .before .before .before .before .before .before .before .args in
+    let open-value· = c .before .before .before .before .before .before .before .before .before .before .before .before .open-value in
+    let opened· = c .before .before .before .before .before .before .before .before .opened in
+    (omega (arith, pre· .0), ((ready-on (omega arith) (omega arith) (ready-value (args· .at) (pre· .1 .0) (open-value· .ensures .opened _ _ _ _ _ ((pre· .1 .0) .fit)) (opened· .given .1))), bind-value (args· .tree .now) (args· .nest) (args· .at) ((pre· .1 .1) .0)))
+
+walk-bind-enum-known-w : (t : ℕ) → walk-bind-lts.Need-enum-known-w (
+  open-value-reads.Asked,
+  open-value-reads.Learnt,
+  no-value-reads.Asked,
+  no-value-reads.Learnt,
+  bind-naming-reads.Asked,
+  bind-naming-reads.Learnt,
+  analyze-below t,
+  analyze.Post,
+  no-spec-reads.Asked,
+  no-spec-reads.Learnt,
+  close-spec-reads.Asked,
+  close-spec-reads.Learnt,
+) (walk-bind-at t) walk-bind.Post
+walk-bind-enum-known-w t c = search needs
+
+walk-bind-enum-told-2 : (t : ℕ) → walk-bind-lts.Need-enum-told-2 (
+  open-value-reads.Asked,
+  open-value-reads.Learnt,
+  no-value-reads.Asked,
+  no-value-reads.Learnt,
+  bind-naming-reads.Asked,
+  bind-naming-reads.Learnt,
+  analyze-below t,
+  analyze.Post,
+  no-spec-reads.Asked,
+  no-spec-reads.Learnt,
+  close-spec-reads.Asked,
+  close-spec-reads.Learnt,
+) (walk-bind-at t) walk-bind.Post
+walk-bind-enum-told-2 t c = search needs
+
+walk-bind-no-spec-requires : (t : ℕ) → walk-bind-lts.Need-no-spec-requires (
+  open-value-reads.Asked,
+  open-value-reads.Learnt,
+  no-value-reads.Asked,
+  no-value-reads.Learnt,
+  bind-naming-reads.Asked,
+  bind-naming-reads.Learnt,
+  analyze-below t,
+  analyze.Post,
+  no-spec-reads.Asked,
+  no-spec-reads.Learnt,
+  close-spec-reads.Asked,
+  close-spec-reads.Learnt,
+) (walk-bind-at t) walk-bind.Post
+walk-bind-no-spec-requires t c κs = search needs
+
+walk-bind-same-length-2 : (t : ℕ) → walk-bind-lts.Need-same-length-2 (
+  open-value-reads.Asked,
+  open-value-reads.Learnt,
+  no-value-reads.Asked,
+  no-value-reads.Learnt,
+  bind-naming-reads.Asked,
+  bind-naming-reads.Learnt,
+  analyze-below t,
+  analyze.Post,
+  no-spec-reads.Asked,
+  no-spec-reads.Learnt,
+  close-spec-reads.Asked,
+  close-spec-reads.Learnt,
+) (walk-bind-at t) walk-bind.Post
+walk-bind-same-length-2 t c = c .before .before .before .before .before .before .before .before .before .before .before .before .before .before .before .analyze .kept .1 .0
+
+walk-bind-same-length-3 : (t : ℕ) → walk-bind-lts.Need-same-length-3 (
+  open-value-reads.Asked,
+  open-value-reads.Learnt,
+  no-value-reads.Asked,
+  no-value-reads.Learnt,
+  bind-naming-reads.Asked,
+  bind-naming-reads.Learnt,
+  analyze-below t,
+  analyze.Post,
+  no-spec-reads.Asked,
+  no-spec-reads.Learnt,
+  close-spec-reads.Asked,
+  close-spec-reads.Learnt,
+) (walk-bind-at t) walk-bind.Post
+walk-bind-same-length-3 t c = c .before .before .before .before .before .before .before .before .before .before .before .before .before .before .before .analyze .kept .1 .1 .0
+
+walk-bind-same-length-4 : (t : ℕ) → walk-bind-lts.Need-same-length-4 (
+  open-value-reads.Asked,
+  open-value-reads.Learnt,
+  no-value-reads.Asked,
+  no-value-reads.Learnt,
+  bind-naming-reads.Asked,
+  bind-naming-reads.Learnt,
+  analyze-below t,
+  analyze.Post,
+  no-spec-reads.Asked,
+  no-spec-reads.Learnt,
+  close-spec-reads.Asked,
+  close-spec-reads.Learnt,
+) (walk-bind-at t) walk-bind.Post
+walk-bind-same-length-4 t c = c .before .before .before .before .before .before .before .before .before .before .before .before .before .before .before .analyze .kept .1 .1 .1 .0
+
+walk-bind-same-length-5 : (t : ℕ) → walk-bind-lts.Need-same-length-5 (
+  open-value-reads.Asked,
+  open-value-reads.Learnt,
+  no-value-reads.Asked,
+  no-value-reads.Learnt,
+  bind-naming-reads.Asked,
+  bind-naming-reads.Learnt,
+  analyze-below t,
+  analyze.Post,
+  no-spec-reads.Asked,
+  no-spec-reads.Learnt,
+  close-spec-reads.Asked,
+  close-spec-reads.Learnt,
+) (walk-bind-at t) walk-bind.Post
+walk-bind-same-length-5 t c = c .before .before .before .before .before .before .before .before .before .before .before .before .before .before .before .analyze .kept .1 .1 .1 .1 .0 ∙ c .before .before .before .before .before .before .before .before .before .before .before .before .before .before .before .before .before .before .before .before .before .before .before .before .before .before .before .before .open-value .kept .0
+
+walk-bind-same-length-6 : (t : ℕ) → walk-bind-lts.Need-same-length-6 (
+  open-value-reads.Asked,
+  open-value-reads.Learnt,
+  no-value-reads.Asked,
+  no-value-reads.Learnt,
+  bind-naming-reads.Asked,
+  bind-naming-reads.Learnt,
+  analyze-below t,
+  analyze.Post,
+  no-spec-reads.Asked,
+  no-spec-reads.Learnt,
+  close-spec-reads.Asked,
+  close-spec-reads.Learnt,
+) (walk-bind-at t) walk-bind.Post
+walk-bind-same-length-6 t c = c .before .before .before .before .before .before .before .before .before .before .before .before .before .before .before .analyze .kept .1 .1 .1 .1 .1 .0
+
+walk-bind-same-length-7 : (t : ℕ) → walk-bind-lts.Need-same-length-7 (
+  open-value-reads.Asked,
+  open-value-reads.Learnt,
+  no-value-reads.Asked,
+  no-value-reads.Learnt,
+  bind-naming-reads.Asked,
+  bind-naming-reads.Learnt,
+  analyze-below t,
+  analyze.Post,
+  no-spec-reads.Asked,
+  no-spec-reads.Learnt,
+  close-spec-reads.Asked,
+  close-spec-reads.Learnt,
+) (walk-bind-at t) walk-bind.Post
+walk-bind-same-length-7 t c = c .before .before .before .before .before .before .before .before .before .before .before .before .before .before .before .analyze .kept .1 .1 .1 .1 .1 .1 .0
+
+walk-bind-returns-2 : (t : ℕ) → walk-bind-lts.Need-returns-2 (
+  open-value-reads.Asked,
+  open-value-reads.Learnt,
+  no-value-reads.Asked,
+  no-value-reads.Learnt,
+  bind-naming-reads.Asked,
+  bind-naming-reads.Learnt,
+  analyze-below t,
+  analyze.Post,
+  no-spec-reads.Asked,
+  no-spec-reads.Learnt,
+  close-spec-reads.Asked,
+  close-spec-reads.Learnt,
+) (walk-bind-at t) walk-bind.Post
+unfolding naming-of
+walk-bind-returns-2 t c =
+    let args· = c .before .before .before .before .before .before .before .before .before .before .before .before .before .before .before .before .before .before .before .before .before .before .before .before .before .before .before .before .before .before .before .before .before .before .before .before .before .args in
+    let pre· = c .before .before .before .before .before .before .before .before .before .before .before .before .before .before .before .before .before .before .before .before .before .before .before .before .before .before .before .before .before .before .before .before .before .before .before .before .before .pre in
+    let open-value· = c .before .before .before .before .before .before .before .before .before .before .before .before .before .before .before .before .before .before .before .before .before .before .before .before .before .before .before .before .open-value in
+    let opened· = c .before .before .before .before .before .before .before .before .before .before .before .before .before .before .before .before .before .before .before .before .before .before .before .before .opened in
+    let bind-naming· = c .before .before .before .before .before .before .before .before .before .before .before .before .before .before .before .before .bind-naming in
+    let analyze· = c .before .before .before .before .before .before .before .before .before .before .before .before .before .before .before .analyze in
+    let enum-told2· = c .before .enum-told2 in
+    let no-spec· = c .no-spec in
+    bind-stopped (args· .tree .now) (args· .nest) (args· .at) (args· .base) (args· .kept) ((pre· .1 .1) .0) (place-of (args· .here)) (open-value· .ensures .opened _ _ _ _ _ ((pre· .1 .0) .fit)) (opened· .given .1) (record { out = refl; diagnostics = refl }) (bind-naming· .ensures) (analyze· .ensures) (enum-told2· .given .1) (specless (no-spec· .ensures) (enum-told2· .given .1))
+
+walk-bind-close-spec-requires : (t : ℕ) → walk-bind-lts.Need-close-spec-requires (
+  open-value-reads.Asked,
+  open-value-reads.Learnt,
+  no-value-reads.Asked,
+  no-value-reads.Learnt,
+  bind-naming-reads.Asked,
+  bind-naming-reads.Learnt,
+  analyze-below t,
+  analyze.Post,
+  no-spec-reads.Asked,
+  no-spec-reads.Learnt,
+  close-spec-reads.Asked,
+  close-spec-reads.Learnt,
+) (walk-bind-at t) walk-bind.Post
+unfolding naming-of
+walk-bind-close-spec-requires t c κs =
+    let analyze· = c .before .before .before .before .before .before .before .before .before .before .before .before .before .before .before .before .before .before .before .before .analyze in
+    let w· = c .before .before .before .before .before .before .w in
+    let pre· = c .before .before .before .before .before .before .before .before .before .before .before .before .before .before .before .before .before .before .before .before .before .before .before .before .before .before .before .before .before .before .before .before .before .before .before .before .before .before .before .before .before .before .pre in
+    let args· = c .before .before .before .before .before .before .before .before .before .before .before .before .before .before .before .before .before .before .before .before .before .before .before .before .before .before .before .before .before .before .before .before .before .before .before .before .before .before .before .before .before .before .args in
+    let open-value· = c .before .before .before .before .before .before .before .before .before .before .before .before .before .before .before .before .before .before .before .before .before .before .before .before .before .before .before .before .before .before .before .before .before .open-value in
+    let opened· = c .before .before .before .before .before .before .before .before .before .before .before .before .before .before .before .before .before .before .before .before .before .before .before .before .before .before .before .before .before .opened in
+    (let f = (went-fit (analyze· .ensures) (w· .given .1)) in ((omega (arith, f .locals-long, f .few-locals), omega (arith, f .frames-long, f .few-frames), f .references-long, f .few-references, f .first-there), omega (arith, (pre· .1 .1) .1, (pre· .1 .1) .2), longer-value (args· .tree .now) (args· .nest) _ (args· .at) _ (place-of (args· .here)) ((pre· .1 .0) .fit) (open-value· .ensures .opened _ _ _ _ _ ((pre· .1 .0) .fit)) (opened· .given .1) (analyze· .ensures) (w· .given .1), f .out-long, f .frames-kept))
+
+walk-bind-same-length-8 : (t : ℕ) → walk-bind-lts.Need-same-length-8 (
+  open-value-reads.Asked,
+  open-value-reads.Learnt,
+  no-value-reads.Asked,
+  no-value-reads.Learnt,
+  bind-naming-reads.Asked,
+  bind-naming-reads.Learnt,
+  analyze-below t,
+  analyze.Post,
+  no-spec-reads.Asked,
+  no-spec-reads.Learnt,
+  close-spec-reads.Asked,
+  close-spec-reads.Learnt,
+) (walk-bind-at t) walk-bind.Post
+walk-bind-same-length-8 t c = c .before .before .before .before .before .before .before .before .close-spec .kept .0 ∙ c .before .before .before .before .before .before .before .before .before .before .before .before .before .before .before .before .before .before .before .before .before .before .before .before .before .before .before .before .before .analyze .kept .1 .0
+
+walk-bind-same-length-9 : (t : ℕ) → walk-bind-lts.Need-same-length-9 (
+  open-value-reads.Asked,
+  open-value-reads.Learnt,
+  no-value-reads.Asked,
+  no-value-reads.Learnt,
+  bind-naming-reads.Asked,
+  bind-naming-reads.Learnt,
+  analyze-below t,
+  analyze.Post,
+  no-spec-reads.Asked,
+  no-spec-reads.Learnt,
+  close-spec-reads.Asked,
+  close-spec-reads.Learnt,
+) (walk-bind-at t) walk-bind.Post
+walk-bind-same-length-9 t c = c .before .before .before .before .before .before .before .before .before .before .before .before .before .before .before .before .before .before .before .before .before .before .before .before .before .before .before .before .before .analyze .kept .1 .1 .0
+
+walk-bind-same-length-10 : (t : ℕ) → walk-bind-lts.Need-same-length-10 (
+  open-value-reads.Asked,
+  open-value-reads.Learnt,
+  no-value-reads.Asked,
+  no-value-reads.Learnt,
+  bind-naming-reads.Asked,
+  bind-naming-reads.Learnt,
+  analyze-below t,
+  analyze.Post,
+  no-spec-reads.Asked,
+  no-spec-reads.Learnt,
+  close-spec-reads.Asked,
+  close-spec-reads.Learnt,
+) (walk-bind-at t) walk-bind.Post
+walk-bind-same-length-10 t c = c .before .before .before .before .before .before .before .before .close-spec .kept .1 .0 ∙ c .before .before .before .before .before .before .before .before .before .before .before .before .before .before .before .before .before .before .before .before .before .before .before .before .before .before .before .before .before .analyze .kept .1 .1 .1 .0
+
+walk-bind-same-length-11 : (t : ℕ) → walk-bind-lts.Need-same-length-11 (
+  open-value-reads.Asked,
+  open-value-reads.Learnt,
+  no-value-reads.Asked,
+  no-value-reads.Learnt,
+  bind-naming-reads.Asked,
+  bind-naming-reads.Learnt,
+  analyze-below t,
+  analyze.Post,
+  no-spec-reads.Asked,
+  no-spec-reads.Learnt,
+  close-spec-reads.Asked,
+  close-spec-reads.Learnt,
+) (walk-bind-at t) walk-bind.Post
+walk-bind-same-length-11 t c = c .before .before .before .before .before .before .before .before .before .before .before .before .before .before .before .before .before .before .before .before .before .before .before .before .before .before .before .before .before .analyze .kept .1 .1 .1 .1 .0 ∙ c .before .before .before .before .before .before .before .before .before .before .before .before .before .before .before .before .before .before .before .before .before .before .before .before .before .before .before .before .before .before .before .before .before .before .before .before .before .before .before .before .before .before .open-value .kept .0
+
+walk-bind-same-length-12 : (t : ℕ) → walk-bind-lts.Need-same-length-12 (
+  open-value-reads.Asked,
+  open-value-reads.Learnt,
+  no-value-reads.Asked,
+  no-value-reads.Learnt,
+  bind-naming-reads.Asked,
+  bind-naming-reads.Learnt,
+  analyze-below t,
+  analyze.Post,
+  no-spec-reads.Asked,
+  no-spec-reads.Learnt,
+  close-spec-reads.Asked,
+  close-spec-reads.Learnt,
+) (walk-bind-at t) walk-bind.Post
+walk-bind-same-length-12 t c = c .before .before .before .before .before .before .before .before .close-spec .kept .1 .1 .1 .1 .0 ∙ c .before .before .before .before .before .before .before .before .before .before .before .before .before .before .before .before .before .before .before .before .before .before .before .before .before .before .before .before .before .analyze .kept .1 .1 .1 .1 .1 .0
+
+walk-bind-same-length-13 : (t : ℕ) → walk-bind-lts.Need-same-length-13 (
+  open-value-reads.Asked,
+  open-value-reads.Learnt,
+  no-value-reads.Asked,
+  no-value-reads.Learnt,
+  bind-naming-reads.Asked,
+  bind-naming-reads.Learnt,
+  analyze-below t,
+  analyze.Post,
+  no-spec-reads.Asked,
+  no-spec-reads.Learnt,
+  close-spec-reads.Asked,
+  close-spec-reads.Learnt,
+) (walk-bind-at t) walk-bind.Post
+walk-bind-same-length-13 t c = c .before .before .before .before .before .before .before .before .close-spec .kept .1 .1 .0 ∙ c .before .before .before .before .before .before .before .before .before .before .before .before .before .before .before .before .before .before .before .before .before .before .before .before .before .before .before .before .before .analyze .kept .1 .1 .1 .1 .1 .1 .0
+
+walk-bind-returns-3 : (t : ℕ) → walk-bind-lts.Need-returns-3 (
+  open-value-reads.Asked,
+  open-value-reads.Learnt,
+  no-value-reads.Asked,
+  no-value-reads.Learnt,
+  bind-naming-reads.Asked,
+  bind-naming-reads.Learnt,
+  analyze-below t,
+  analyze.Post,
+  no-spec-reads.Asked,
+  no-spec-reads.Learnt,
+  close-spec-reads.Asked,
+  close-spec-reads.Learnt,
+) (walk-bind-at t) walk-bind.Post
+unfolding naming-of stack spec-mark spec-numbers
+walk-bind-returns-3 t c =
+    let args· = c .before .before .before .before .before .before .before .before .before .before .before .before .before .before .before .before .before .before .before .before .before .before .before .before .before .before .before .before .before .before .before .before .before .before .before .before .before .before .before .before .before .before .before .before .before .before .before .before .before .before .before .args in
+    let pre· = c .before .before .before .before .before .before .before .before .before .before .before .before .before .before .before .before .before .before .before .before .before .before .before .before .before .before .before .before .before .before .before .before .before .before .before .before .before .before .before .before .before .before .before .before .before .before .before .before .before .before .before .pre in
+    let open-value· = c .before .before .before .before .before .before .before .before .before .before .before .before .before .before .before .before .before .before .before .before .before .before .before .before .before .before .before .before .before .before .before .before .before .before .before .before .before .before .before .before .before .before .open-value in
+    let opened· = c .before .before .before .before .before .before .before .before .before .before .before .before .before .before .before .before .before .before .before .before .before .before .before .before .before .before .before .before .before .before .before .before .before .before .before .before .before .before .opened in
+    let bind-naming· = c .before .before .before .before .before .before .before .before .before .before .before .before .before .before .before .before .before .before .before .before .before .before .before .before .before .before .before .before .before .before .bind-naming in
+    let analyze· = c .before .before .before .before .before .before .before .before .before .before .before .before .before .before .before .before .before .before .before .before .before .before .before .before .before .before .before .before .before .analyze in
+    let w· = c .before .before .before .before .before .before .before .before .before .before .before .before .before .before .before .w in
+    let close-spec· = c .before .before .before .before .before .before .before .before .close-spec in
+    bind-ended (args· .tree .now) (args· .nest) (args· .at) (args· .base) (args· .kept) ((pre· .1 .1) .0) (place-of (args· .here)) (open-value· .ensures .opened _ _ _ _ _ ((pre· .1 .0) .fit)) (opened· .given .1) (record { out = refl; diagnostics = refl }) (bind-naming· .ensures) (analyze· .ensures) (w· .given .1) (record { out = analyze· .kept .1 .0; diagnostics = analyze· .kept .1 .1 .0 }) (written-counted _ _ ((pre· .1 .0) .fit)) refl refl refl (close-spec· .ensures .walks _ (went-fit (analyze· .ensures) (w· .given .1)))
+
+pub walk-bind-met : {M : Type 1} (t : ℕ) → walk-bind-lts.Closed (
+      open-value-reads.Asked,
+      open-value-reads.Learnt,
+      no-value-reads.Asked,
+      no-value-reads.Learnt,
+      bind-naming-reads.Asked,
+      bind-naming-reads.Learnt,
+      analyze-below t,
+      analyze.Post,
+      no-spec-reads.Asked,
+      no-spec-reads.Learnt,
+      close-spec-reads.Asked,
+      close-spec-reads.Learnt,
+    ) (walk-bind-at t) walk-bind.Post M
+walk-bind-met t = walk-bind-lts.spec (
+      open-value-reads.Asked,
+      open-value-reads.Learnt,
+      no-value-reads.Asked,
+      no-value-reads.Learnt,
+      bind-naming-reads.Asked,
+      bind-naming-reads.Learnt,
+      analyze-below t,
+      analyze.Post,
+      no-spec-reads.Asked,
+      no-spec-reads.Learnt,
+      close-spec-reads.Asked,
+      close-spec-reads.Learnt,
+    )
+    (walk-bind-at t)
+    walk-bind.Post
+    (walk-bind-open-value-requires t)
+    (walk-bind-enum-known-opened t)
+    (walk-bind-enum-told t)
+    (walk-bind-no-value-requires t)
+    (walk-bind-same-length t)
+    (walk-bind-returns t)
+    (walk-bind-add-analyze t)
+    (walk-bind-bind-naming-requires t)
+    (walk-bind-analyze-requires t)
+    (walk-bind-enum-known-w t)
+    (walk-bind-enum-told-2 t)
+    (walk-bind-no-spec-requires t)
+    (walk-bind-same-length-2 t)
+    (walk-bind-same-length-3 t)
+    (walk-bind-same-length-4 t)
+    (walk-bind-same-length-5 t)
+    (walk-bind-same-length-6 t)
+    (walk-bind-same-length-7 t)
+    (walk-bind-returns-2 t)
+    (walk-bind-close-spec-requires t)
+    (walk-bind-same-length-8 t)
+    (walk-bind-same-length-9 t)
+    (walk-bind-same-length-10 t)
+    (walk-bind-same-length-11 t)
+    (walk-bind-same-length-12 t)
+    (walk-bind-same-length-13 t)
+    (walk-bind-returns-3 t)

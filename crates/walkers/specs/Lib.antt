@@ -1,0 +1,1 @@
+-- The contracts cite what stands elsewhere.

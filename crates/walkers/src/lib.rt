@@ -1,0 +1,1445 @@
+// The walkers of the analysis: expressions, functions and objects, which call one another over the packed tree. `nest` levels are left
+// for what a walker is given; all of them have the six lent buffers, the limits and the state, which goes by value.
+ghost use mathlib.Core.Path.{_≡_};
+ghost use Prim.Native.Nat.{ℕ, _+_, _-_, _<_, _≤_};
+ghost use lib.ListN.{length};
+ghost use Rattle.rules.specs.Numbers as rules;
+ghost use Rattle.rules.specs.FirstWalk.{any-expression, expr-at};
+ghost use Rattle.rules.specs.Walk as walk;
+ghost use Rattle.state.specs.Seen.{buffers};
+ghost use Rattle.state.specs.Walks.{place-of, naming-of, Walks, Walks-specs};
+ghost use Rattle.runs.specs.Run.{Accepted, items-at, binds-at, params-at, heads-at, values-at};
+ghost use Rattle.runs.specs.Run.{run-expr, run-items, run-assertions, run-values, run-heads, run-binds, run-params};
+ghost use Rattle.runs.specs.Steps.{first-defaults};
+ghost use Rattle.joins.specs.Ready.{not-opened, no-value, no-spec, not-kept, Ready, There, Plain-there, Held-there, Members-there, Fields-there, fields-steps, members-steps};
+use atoms::analyze_identity;
+use atoms::analyze_import;
+use atoms::analyze_variable;
+use atoms::copy_record;
+use atoms::emit_constants;
+use atoms::emit_head;
+use closing::FunctionEnd;
+use closing::ObjectEnd;
+use closing::finish_function;
+use closing::finish_local;
+use closing::finish_object;
+use closing::settle_frame;
+use depths::AnalysisResult;
+use keeping::Spec;
+use keeping::close_array;
+use keeping::close_assertions;
+use keeping::close_spec;
+use keeping::close_value;
+use keeping::record_spec_init;
+use opening::begin_function;
+use opening::begin_local;
+use opening::begin_object;
+use opening::bind_naming;
+use opening::deeper;
+use opening::head_naming;
+use opening::in_object;
+use opening::is_static;
+use opening::open_value;
+use packed::mark_at;
+use packed::number_at;
+use state::AnalysisStack;
+use state::Limits;
+use state::Naming;
+use state::Place;
+use state::Specs;
+use state::Step;
+use state::Walked;
+use tree::AR;
+use tree::AT;
+use tree::FN;
+use tree::ID;
+use tree::IM;
+use tree::LO;
+use tree::NA;
+use tree::OB;
+use tree::PT;
+use tree::TV;
+use tree::VA;
+use tree::after_head;
+use tree::children;
+use tree::constants;
+use tree::size_of;
+use writing::open_frame;
+
+// Whether the first of n parameters has a default.
+fn first_defaults(tree: &[u8], at: usize, n: u32) -> bool
+    requires { ⌜ (length (now tree) ≤ 16777216) × (0 < n → at + 14 ≤ length (now tree)) ⌝ }
+    ensures { λ r. ⌜ r ≡ first-defaults (now (tree .entry)) n at ⌝ }
+{
+    if n == 0 {
+        return false;
+    }
+    if number_at(tree, at + 10) == 0 {
+        return false;
+    }
+    true
+}
+
+// A refusal, as the answer that is asked for.
+fn not_opened(step: Step) -> Walked
+    ensures { λ r. ⌜ r ≡ not-opened step ⌝ }
+{
+    match step {
+        Step::Ok(st) => Walked::To(st, 0),
+        Step::Refused(number, place) => Walked::Refused(number, place),
+    }
+}
+
+fn no_value(step: Step) -> Specs
+    ensures { λ r. ⌜ r ≡ no-value step ⌝ }
+{
+    match step {
+        Step::Ok(st) => Specs::To(st, 0, 0),
+        Step::Refused(number, place) => Specs::Refused(number, place),
+    }
+}
+
+fn no_spec(w: Walked) -> Specs
+    ensures { λ r. ⌜ r ≡ no-spec w ⌝ }
+{
+    match w {
+        Walked::To(st, next) => Specs::To(st, next, 0),
+        Walked::Refused(number, place) => Specs::Refused(number, place),
+    }
+}
+
+fn not_kept(specs: Specs) -> Walked
+    ensures { λ r. ⌜ r ≡ not-kept specs ⌝ }
+{
+    match specs {
+        Specs::To(st, next, _) => Walked::To(st, next),
+        Specs::Refused(number, place) => Walked::Refused(number, place),
+    }
+}
+
+// The expression at a place, with `nest` levels left for it and what stands below it.
+pub fn analyze(
+    tree: &[u8],
+    out: &mut [u8],
+    diagnostics: &mut [u8],
+    locals: &mut [u32],
+    frames: &mut [u32],
+    captures: &mut [u32],
+    references: &mut [u32],
+    limits: Limits,
+    st: AnalysisStack,
+    at: usize,
+    nest: u32,
+    naming: Naming,
+    here: Place,
+) -> Walked
+    requires { ⌜ Ready limits (buffers (now out) (now diagnostics) (now locals) (now frames) (now captures) (now references)) st (now tree) at nest here ⌝ }
+    requires { ⌜ Accepted (expr-at (now tree) nest any-expression at) ⌝ }
+    ensures { λ r. ⌜ (Walks r limits (buffers (now (out .entry)) (now (diagnostics .entry)) (now (locals .entry)) (now (frames .entry)) (now (captures .entry)) (now (references .entry))) (buffers (now (out .exit)) (now (diagnostics .exit)) (now (locals .exit)) (now (frames .exit)) (now (captures .exit)) (now (references .exit))) st (λ limits σ. run-expr (now (tree .entry)) limits nest at (naming-of naming) (place-of here) σ)) ⌝ }
+{
+    let mark = mark_at(tree, at);
+    match mark {
+        ID => analyze_identity(
+            tree,
+            out,
+            diagnostics,
+            locals,
+            frames,
+            captures,
+            limits,
+            st,
+            at,
+            here,
+        ),
+        TV => copy_record(tree, out, st, at, at + 6, TV),
+        VA => analyze_variable(
+            tree,
+            out,
+            diagnostics,
+            locals,
+            frames,
+            captures,
+            limits,
+            st,
+            at,
+            here,
+        ),
+        AR => walk_array(
+            tree,
+            out,
+            diagnostics,
+            locals,
+            frames,
+            captures,
+            references,
+            limits,
+            st,
+            at,
+            nest,
+            here,
+        ),
+        IM => analyze_import(tree, out, diagnostics, st, at),
+        LO => walk_local(
+            tree,
+            out,
+            diagnostics,
+            locals,
+            frames,
+            captures,
+            references,
+            limits,
+            st,
+            at,
+            nest,
+            here,
+        ),
+        FN => analyze_function(
+            tree,
+            out,
+            diagnostics,
+            locals,
+            frames,
+            captures,
+            references,
+            limits,
+            st,
+            at,
+            nest,
+            naming,
+            here,
+        ),
+        OB => walk_object(
+            tree,
+            out,
+            diagnostics,
+            locals,
+            frames,
+            captures,
+            references,
+            limits,
+            st,
+            at,
+            nest,
+            here,
+        ),
+        _ => walk_plain(
+            tree,
+            out,
+            diagnostics,
+            locals,
+            frames,
+            captures,
+            references,
+            limits,
+            st,
+            at,
+            nest,
+            mark,
+            here,
+        ),
+    }
+}
+
+// A record with this mark that opens no frame: what stands below it, and then itself.
+fn walk_plain(
+    tree: &[u8],
+    out: &mut [u8],
+    diagnostics: &mut [u8],
+    locals: &mut [u32],
+    frames: &mut [u32],
+    captures: &mut [u32],
+    references: &mut [u32],
+    limits: Limits,
+    st: AnalysisStack,
+    at: usize,
+    nest: u32,
+    mark: u32,
+    here: Place,
+) -> Walked
+    requires { ⌜ Ready limits (buffers (now out) (now diagnostics) (now locals) (now frames) (now captures) (now references)) st (now tree) at nest here ⌝ }
+    requires { ⌜ Plain-there (now tree) nest mark at ⌝ }
+    ensures { λ r. ⌜ ((ν : walk.Naming) → Walks r limits (buffers (now (out .entry)) (now (diagnostics .entry)) (now (locals .entry)) (now (frames .entry)) (now (captures .entry)) (now (references .entry))) (buffers (now (out .exit)) (now (diagnostics .exit)) (now (locals .exit)) (now (frames .exit)) (now (captures .exit)) (now (references .exit))) st (λ limits σ. run-expr (now (tree .entry)) limits nest at ν (place-of here) σ)) ⌝ }
+{
+    let n = children(&tree[at..], mark);
+    let below = at + size_of(mark);
+    let w = walk_items(
+        tree,
+        out,
+        diagnostics,
+        locals,
+        frames,
+        captures,
+        references,
+        limits,
+        st,
+        below,
+        nest - 1,
+        n,
+        here,
+    );
+    let Walked::To(after, next) = w else {
+        return w;
+    };
+    copy_record(tree, out, after, at, next, mark)
+}
+
+// `AR`: constants in one record, or items in a using frame.
+fn walk_array(
+    tree: &[u8],
+    out: &mut [u8],
+    diagnostics: &mut [u8],
+    locals: &mut [u32],
+    frames: &mut [u32],
+    captures: &mut [u32],
+    references: &mut [u32],
+    limits: Limits,
+    st: AnalysisStack,
+    at: usize,
+    nest: u32,
+    here: Place,
+) -> Walked
+    requires { ⌜ Ready limits (buffers (now out) (now diagnostics) (now locals) (now frames) (now captures) (now references)) st (now tree) at nest here ⌝ }
+    requires { ⌜ There (now tree) nest rules.AR at ⌝ }
+    ensures { λ r. ⌜ ((ν : walk.Naming) → Walks r limits (buffers (now (out .entry)) (now (diagnostics .entry)) (now (locals .entry)) (now (frames .entry)) (now (captures .entry)) (now (references .entry))) (buffers (now (out .exit)) (now (diagnostics .exit)) (now (locals .exit)) (now (frames .exit)) (now (captures .exit)) (now (references .exit))) st (λ limits σ. run-expr (now (tree .entry)) limits nest at ν (place-of here) σ)) ⌝ }
+{
+    let n = number_at(tree, at + 2);
+    if constants(tree, at + 6, n as usize) {
+        return emit_constants(tree, out, st, at, n as usize);
+    }
+    let opened = open_frame(frames, limits, st, at, false);
+    let Step::Ok(inside) = opened else {
+        return not_opened(opened);
+    };
+    let w = walk_items(
+        tree,
+        out,
+        diagnostics,
+        locals,
+        frames,
+        captures,
+        references,
+        limits,
+        inside,
+        at + 6,
+        nest - 1,
+        n as usize,
+        here,
+    );
+    let Walked::To(after, next) = w else {
+        return w;
+    };
+    close_array(out, frames, captures, after, at, n, next)
+}
+
+// `LO`: binds and a body; with no binds it is its body.
+fn walk_local(
+    tree: &[u8],
+    out: &mut [u8],
+    diagnostics: &mut [u8],
+    locals: &mut [u32],
+    frames: &mut [u32],
+    captures: &mut [u32],
+    references: &mut [u32],
+    limits: Limits,
+    st: AnalysisStack,
+    at: usize,
+    nest: u32,
+    here: Place,
+) -> Walked
+    requires { ⌜ Ready limits (buffers (now out) (now diagnostics) (now locals) (now frames) (now captures) (now references)) st (now tree) at nest here ⌝ }
+    requires { ⌜ There (now tree) nest rules.LO at ⌝ }
+    ensures { λ r. ⌜ ((ν : walk.Naming) → Walks r limits (buffers (now (out .entry)) (now (diagnostics .entry)) (now (locals .entry)) (now (frames .entry)) (now (captures .entry)) (now (references .entry))) (buffers (now (out .exit)) (now (diagnostics .exit)) (now (locals .exit)) (now (frames .exit)) (now (captures .exit)) (now (references .exit))) st (λ limits σ. run-expr (now (tree .entry)) limits nest at ν (place-of here) σ)) ⌝ }
+{
+    let n = number_at(tree, at + 2);
+    if n == 0 {
+        return analyze(
+            tree,
+            out,
+            diagnostics,
+            locals,
+            frames,
+            captures,
+            references,
+            limits,
+            st,
+            at + 6,
+            nest - 1,
+            Naming::Unnamed,
+            here,
+        );
+    }
+    let before = st.references;
+    let begun = begin_local(
+        tree,
+        diagnostics,
+        locals,
+        frames,
+        limits,
+        st,
+        at,
+        n,
+        here.depth,
+    );
+    let Walked::To(inside, _) = begun else {
+        return begun;
+    };
+    let specs = walk_binds(
+        tree,
+        out,
+        diagnostics,
+        locals,
+        frames,
+        captures,
+        references,
+        limits,
+        inside,
+        at + 6,
+        nest - 1,
+        n,
+        0,
+        here,
+    );
+    let Specs::To(known, body, kept) = specs else {
+        return not_kept(specs);
+    };
+    let settled = settle_frame(locals, references, known, kept, before);
+    let w = analyze(
+        tree,
+        out,
+        diagnostics,
+        locals,
+        frames,
+        captures,
+        references,
+        limits,
+        settled,
+        body,
+        nest - 1,
+        Naming::Unnamed,
+        deeper(here),
+    );
+    let Walked::To(after, next) = w else {
+        return w;
+    };
+    finish_local(
+        out,
+        diagnostics,
+        locals,
+        frames,
+        captures,
+        references,
+        limits,
+        after,
+        at,
+        kept,
+        before,
+        next,
+    )
+}
+
+// `FN`: parameters and a body.
+fn analyze_function(
+    tree: &[u8],
+    out: &mut [u8],
+    diagnostics: &mut [u8],
+    locals: &mut [u32],
+    frames: &mut [u32],
+    captures: &mut [u32],
+    references: &mut [u32],
+    limits: Limits,
+    st: AnalysisStack,
+    at: usize,
+    nest: u32,
+    naming: Naming,
+    here: Place,
+) -> Walked
+    requires { ⌜ Ready limits (buffers (now out) (now diagnostics) (now locals) (now frames) (now captures) (now references)) st (now tree) at nest here ⌝ }
+    requires { ⌜ There (now tree) nest rules.FN at ⌝ }
+    ensures { λ r. ⌜ (Walks r limits (buffers (now (out .entry)) (now (diagnostics .entry)) (now (locals .entry)) (now (frames .entry)) (now (captures .entry)) (now (references .entry))) (buffers (now (out .exit)) (now (diagnostics .exit)) (now (locals .exit)) (now (frames .exit)) (now (captures .exit)) (now (references .exit))) st (λ limits σ. run-expr (now (tree .entry)) limits nest at (naming-of naming) (place-of here) σ)) ⌝ }
+{
+    let n = number_at(tree, at + 6);
+    let before = st.references;
+    let begun = begin_function(
+        tree,
+        diagnostics,
+        locals,
+        frames,
+        limits,
+        st,
+        at,
+        n,
+        here.depth,
+    );
+    let Walked::To(inside, _) = begun else {
+        return begun;
+    };
+    let specs = walk_params(
+        tree,
+        out,
+        diagnostics,
+        locals,
+        frames,
+        captures,
+        references,
+        limits,
+        inside,
+        at + 10,
+        nest - 1,
+        n,
+        here,
+    );
+    let Specs::To(known, body, kept) = specs else {
+        return not_kept(specs);
+    };
+    let settled = settle_frame(locals, references, known, kept, before);
+    let w = analyze(
+        tree,
+        out,
+        diagnostics,
+        locals,
+        frames,
+        captures,
+        references,
+        limits,
+        settled,
+        body,
+        nest - 1,
+        Naming::Unnamed,
+        deeper(here),
+    );
+    let Walked::To(after, next) = w else {
+        return w;
+    };
+    let defaults = first_defaults(tree, at + 10, n);
+    let function = FunctionEnd {
+        span: number_at(tree, at + 2),
+        start: st.out,
+        body_start: known.out,
+        kept: kept,
+        defaults: defaults,
+    };
+    finish_function(
+        out,
+        diagnostics,
+        locals,
+        frames,
+        captures,
+        references,
+        limits,
+        after,
+        at,
+        before,
+        function,
+        naming,
+        next,
+    )
+}
+
+// `OB`: heads in the scope outside, then binds, assertions and values inside.
+fn walk_object(
+    tree: &[u8],
+    out: &mut [u8],
+    diagnostics: &mut [u8],
+    locals: &mut [u32],
+    frames: &mut [u32],
+    captures: &mut [u32],
+    references: &mut [u32],
+    limits: Limits,
+    st: AnalysisStack,
+    at: usize,
+    nest: u32,
+    here: Place,
+) -> Walked
+    requires { ⌜ Ready limits (buffers (now out) (now diagnostics) (now locals) (now frames) (now captures) (now references)) st (now tree) at nest here ⌝ }
+    requires { ⌜ There (now tree) nest rules.OB at ⌝ }
+    ensures { λ r. ⌜ ((ν : walk.Naming) → Walks r limits (buffers (now (out .entry)) (now (diagnostics .entry)) (now (locals .entry)) (now (frames .entry)) (now (captures .entry)) (now (references .entry))) (buffers (now (out .exit)) (now (diagnostics .exit)) (now (locals .exit)) (now (frames .exit)) (now (captures .exit)) (now (references .exit))) st (λ limits σ. run-expr (now (tree .entry)) limits nest at ν (place-of here) σ)) ⌝ }
+{
+    let fields = number_at(tree, at + 10);
+    let heads = walk_heads(
+        tree,
+        out,
+        diagnostics,
+        locals,
+        frames,
+        captures,
+        references,
+        limits,
+        st,
+        at + 14,
+        nest - 1,
+        fields,
+        here,
+    );
+    let Walked::To(outside, binds) = heads else {
+        return heads;
+    };
+    analyze_obj_members(
+        tree,
+        out,
+        diagnostics,
+        locals,
+        frames,
+        captures,
+        references,
+        limits,
+        outside,
+        binds,
+        nest,
+        at,
+        here,
+    )
+}
+
+// What stands behind the heads of the object at `object`: its binds, which stand here, assertions and values.
+fn analyze_obj_members(
+    tree: &[u8],
+    out: &mut [u8],
+    diagnostics: &mut [u8],
+    locals: &mut [u32],
+    frames: &mut [u32],
+    captures: &mut [u32],
+    references: &mut [u32],
+    limits: Limits,
+    st: AnalysisStack,
+    at: usize,
+    nest: u32,
+    object: usize,
+    here: Place,
+) -> Walked
+    requires { ⌜ Ready limits (buffers (now out) (now diagnostics) (now locals) (now frames) (now captures) (now references)) st (now tree) (at - 14) nest here ⌝ }
+    requires { ⌜ Members-there (now tree) nest at object ⌝ }
+    ensures { λ r. ⌜ (Walks r limits (buffers (now (out .entry)) (now (diagnostics .entry)) (now (locals .entry)) (now (frames .entry)) (now (captures .entry)) (now (references .entry))) (buffers (now (out .exit)) (now (diagnostics .exit)) (now (locals .exit)) (now (frames .exit)) (now (captures .exit)) (now (references .exit))) st (λ limits σ. members-steps (now (tree .entry)) limits nest at object (place-of here) σ)) ⌝ }
+{
+    let n = number_at(tree, object + 2);
+    let before = st.references;
+    let inside = in_object(here, st.locals);
+    let begun = begin_object(
+        tree,
+        diagnostics,
+        locals,
+        frames,
+        limits,
+        st,
+        object,
+        at,
+        n,
+        here,
+    );
+    let Walked::To(opened, _) = begun else {
+        return begun;
+    };
+    let specs = walk_binds(
+        tree,
+        out,
+        diagnostics,
+        locals,
+        frames,
+        captures,
+        references,
+        limits,
+        opened,
+        at,
+        nest - 1,
+        n,
+        1,
+        inside,
+    );
+    let Specs::To(known, assertions, kept) = specs else {
+        return not_kept(specs);
+    };
+    let settled = settle_frame(locals, references, known, kept, before);
+    let w = walk_fields(
+        tree,
+        out,
+        diagnostics,
+        locals,
+        frames,
+        captures,
+        references,
+        limits,
+        settled,
+        assertions,
+        nest - 1,
+        object,
+        deeper(inside),
+    );
+    let Walked::To(after, next) = w else {
+        return w;
+    };
+    let fields = number_at(tree, object + 10);
+    let end = ObjectEnd {
+        outermost: !here.in_object,
+        self_used: st.self_used,
+        super_used: st.super_used,
+        kept: kept,
+        assertions: number_at(tree, object + 6),
+        values: fields,
+        is_static: is_static(tree, object + 14, fields),
+    };
+    finish_object(
+        out,
+        diagnostics,
+        locals,
+        frames,
+        captures,
+        references,
+        limits,
+        after,
+        object,
+        before,
+        end,
+        next,
+    )
+}
+
+// The assertions and the values of the object at `object`.
+fn walk_fields(
+    tree: &[u8],
+    out: &mut [u8],
+    diagnostics: &mut [u8],
+    locals: &mut [u32],
+    frames: &mut [u32],
+    captures: &mut [u32],
+    references: &mut [u32],
+    limits: Limits,
+    st: AnalysisStack,
+    at: usize,
+    nest: u32,
+    object: usize,
+    here: Place,
+) -> Walked
+    requires { ⌜ Ready limits (buffers (now out) (now diagnostics) (now locals) (now frames) (now captures) (now references)) st (now tree) at nest here ⌝ }
+    requires { ⌜ Fields-there (now tree) nest object at ⌝ }
+    ensures { λ r. ⌜ (Walks r limits (buffers (now (out .entry)) (now (diagnostics .entry)) (now (locals .entry)) (now (frames .entry)) (now (captures .entry)) (now (references .entry))) (buffers (now (out .exit)) (now (diagnostics .exit)) (now (locals .exit)) (now (frames .exit)) (now (captures .exit)) (now (references .exit))) st (λ limits σ. fields-steps (now (tree .entry)) limits nest object at (place-of here) σ)) ⌝ }
+{
+    let w = walk_assertions(
+        tree,
+        out,
+        diagnostics,
+        locals,
+        frames,
+        captures,
+        references,
+        limits,
+        st,
+        at,
+        nest,
+        number_at(tree, object + 6),
+        here,
+    );
+    let Walked::To(after, values) = w else {
+        return w;
+    };
+    walk_values(
+        tree,
+        out,
+        diagnostics,
+        locals,
+        frames,
+        captures,
+        references,
+        limits,
+        after,
+        values,
+        nest,
+        number_at(tree, object + 10),
+        object + 14,
+        here,
+    )
+}
+
+// An expression, or an `NA`, `PT` or `AT` with the expressions that it holds.
+fn walk_item(
+    tree: &[u8],
+    out: &mut [u8],
+    diagnostics: &mut [u8],
+    locals: &mut [u32],
+    frames: &mut [u32],
+    captures: &mut [u32],
+    references: &mut [u32],
+    limits: Limits,
+    st: AnalysisStack,
+    at: usize,
+    nest: u32,
+    here: Place,
+) -> Walked
+    requires { ⌜ Ready limits (buffers (now out) (now diagnostics) (now locals) (now frames) (now captures) (now references)) st (now tree) at nest here ⌝ }
+    requires { ⌜ Accepted (items-at (now tree) nest 1 at) ⌝ }
+    ensures { λ r. ⌜ (Walks r limits (buffers (now (out .entry)) (now (diagnostics .entry)) (now (locals .entry)) (now (frames .entry)) (now (captures .entry)) (now (references .entry))) (buffers (now (out .exit)) (now (diagnostics .exit)) (now (locals .exit)) (now (frames .exit)) (now (captures .exit)) (now (references .exit))) st (λ limits σ. run-items (now (tree .entry)) limits nest 1 at (place-of here) σ)) ⌝ }
+{
+    let mark = mark_at(tree, at);
+    match mark {
+        NA => walk_held(
+            tree,
+            out,
+            diagnostics,
+            locals,
+            frames,
+            captures,
+            references,
+            limits,
+            st,
+            at,
+            nest,
+            mark,
+            here,
+        ),
+        PT => walk_held(
+            tree,
+            out,
+            diagnostics,
+            locals,
+            frames,
+            captures,
+            references,
+            limits,
+            st,
+            at,
+            nest,
+            mark,
+            here,
+        ),
+        AT => walk_held(
+            tree,
+            out,
+            diagnostics,
+            locals,
+            frames,
+            captures,
+            references,
+            limits,
+            st,
+            at,
+            nest,
+            mark,
+            here,
+        ),
+        _ => analyze(
+            tree,
+            out,
+            diagnostics,
+            locals,
+            frames,
+            captures,
+            references,
+            limits,
+            st,
+            at,
+            nest,
+            Naming::Unnamed,
+            here,
+        ),
+    }
+}
+
+// `NA`, `PT` or `AT`: one expression, or two for an assertion with a message.
+fn walk_held(
+    tree: &[u8],
+    out: &mut [u8],
+    diagnostics: &mut [u8],
+    locals: &mut [u32],
+    frames: &mut [u32],
+    captures: &mut [u32],
+    references: &mut [u32],
+    limits: Limits,
+    st: AnalysisStack,
+    at: usize,
+    nest: u32,
+    mark: u32,
+    here: Place,
+) -> Walked
+    requires { ⌜ Ready limits (buffers (now out) (now diagnostics) (now locals) (now frames) (now captures) (now references)) st (now tree) at nest here ⌝ }
+    requires { ⌜ Held-there (now tree) nest mark at ⌝ }
+    ensures { λ r. ⌜ (Walks r limits (buffers (now (out .entry)) (now (diagnostics .entry)) (now (locals .entry)) (now (frames .entry)) (now (captures .entry)) (now (references .entry))) (buffers (now (out .exit)) (now (diagnostics .exit)) (now (locals .exit)) (now (frames .exit)) (now (captures .exit)) (now (references .exit))) st (λ limits σ. run-items (now (tree .entry)) limits nest 1 at (place-of here) σ)) ⌝ }
+{
+    let n = children(&tree[at..], mark);
+    let first = analyze(
+        tree,
+        out,
+        diagnostics,
+        locals,
+        frames,
+        captures,
+        references,
+        limits,
+        st,
+        at + 6,
+        nest,
+        Naming::Unnamed,
+        here,
+    );
+    let Walked::To(after, next) = first else {
+        return first;
+    };
+    if n == 1 {
+        return copy_record(tree, out, after, at, next, mark);
+    }
+    let second = analyze(
+        tree,
+        out,
+        diagnostics,
+        locals,
+        frames,
+        captures,
+        references,
+        limits,
+        after,
+        next,
+        nest,
+        Naming::Unnamed,
+        here,
+    );
+    let Walked::To(after, next) = second else {
+        return second;
+    };
+    copy_record(tree, out, after, at, next, mark)
+}
+
+// n of them.
+fn walk_items(
+    tree: &[u8],
+    out: &mut [u8],
+    diagnostics: &mut [u8],
+    locals: &mut [u32],
+    frames: &mut [u32],
+    captures: &mut [u32],
+    references: &mut [u32],
+    limits: Limits,
+    st: AnalysisStack,
+    at: usize,
+    nest: u32,
+    n: usize,
+    here: Place,
+) -> Walked
+    requires { ⌜ Ready limits (buffers (now out) (now diagnostics) (now locals) (now frames) (now captures) (now references)) st (now tree) at nest here ⌝ }
+    requires { ⌜ Accepted (items-at (now tree) nest n at) ⌝ }
+    ensures { λ r. ⌜ (Walks r limits (buffers (now (out .entry)) (now (diagnostics .entry)) (now (locals .entry)) (now (frames .entry)) (now (captures .entry)) (now (references .entry))) (buffers (now (out .exit)) (now (diagnostics .exit)) (now (locals .exit)) (now (frames .exit)) (now (captures .exit)) (now (references .exit))) st (λ limits σ. run-items (now (tree .entry)) limits nest n at (place-of here) σ)) ⌝ }
+{
+    let mut state = st;
+    let mut p = at;
+    let mut i: usize = 0;
+    while i < n {
+        let w = walk_item(
+            tree,
+            out,
+            diagnostics,
+            locals,
+            frames,
+            captures,
+            references,
+            limits,
+            state,
+            p,
+            nest,
+            here,
+        );
+        match w {
+            Walked::To(after, next) => {
+                state = after;
+                p = next;
+            }
+            Walked::Refused(number, place) => {
+                return Walked::Refused(number, place);
+            }
+        }
+        i += 1;
+    }
+    Walked::To(state, p)
+}
+
+// An object's assertions, in one using frame if there are any.
+fn walk_assertions(
+    tree: &[u8],
+    out: &mut [u8],
+    diagnostics: &mut [u8],
+    locals: &mut [u32],
+    frames: &mut [u32],
+    captures: &mut [u32],
+    references: &mut [u32],
+    limits: Limits,
+    st: AnalysisStack,
+    at: usize,
+    nest: u32,
+    n: u32,
+    here: Place,
+) -> Walked
+    requires { ⌜ Ready limits (buffers (now out) (now diagnostics) (now locals) (now frames) (now captures) (now references)) st (now tree) at nest here ⌝ }
+    requires { ⌜ Accepted (items-at (now tree) nest n at) ⌝ }
+    ensures { λ r. ⌜ (Walks r limits (buffers (now (out .entry)) (now (diagnostics .entry)) (now (locals .entry)) (now (frames .entry)) (now (captures .entry)) (now (references .entry))) (buffers (now (out .exit)) (now (diagnostics .exit)) (now (locals .exit)) (now (frames .exit)) (now (captures .exit)) (now (references .exit))) st (λ limits σ. run-assertions (now (tree .entry)) limits nest n at (place-of here) σ)) ⌝ }
+{
+    if n == 0 {
+        return Walked::To(st, at);
+    }
+    let opened = open_frame(frames, limits, st, at, false);
+    let Step::Ok(inside) = opened else {
+        return not_opened(opened);
+    };
+    let w = walk_items(
+        tree,
+        out,
+        diagnostics,
+        locals,
+        frames,
+        captures,
+        references,
+        limits,
+        inside,
+        at,
+        nest,
+        n as usize,
+        here,
+    );
+    let Walked::To(after, next) = w else {
+        return w;
+    };
+    close_assertions(out, frames, captures, after, at, next)
+}
+
+// A field's head, with its name if that is computed.
+fn walk_head(
+    tree: &[u8],
+    out: &mut [u8],
+    diagnostics: &mut [u8],
+    locals: &mut [u32],
+    frames: &mut [u32],
+    captures: &mut [u32],
+    references: &mut [u32],
+    limits: Limits,
+    st: AnalysisStack,
+    at: usize,
+    nest: u32,
+    here: Place,
+) -> Walked
+    requires { ⌜ Ready limits (buffers (now out) (now diagnostics) (now locals) (now frames) (now captures) (now references)) st (now tree) at nest here ⌝ }
+    requires { ⌜ Accepted (heads-at (now tree) nest 1 at) ⌝ }
+    ensures { λ r. ⌜ (Walks r limits (buffers (now (out .entry)) (now (diagnostics .entry)) (now (locals .entry)) (now (frames .entry)) (now (captures .entry)) (now (references .entry))) (buffers (now (out .exit)) (now (diagnostics .exit)) (now (locals .exit)) (now (frames .exit)) (now (captures .exit)) (now (references .exit))) st (λ limits σ. run-heads (now (tree .entry)) limits nest 1 at (place-of here) σ)) ⌝ }
+{
+    if number_at(tree, at + 2) == 0 {
+        return emit_head(tree, out, st, at, at + 26);
+    }
+    let w = analyze(
+        tree,
+        out,
+        diagnostics,
+        locals,
+        frames,
+        captures,
+        references,
+        limits,
+        st,
+        at + 26,
+        nest,
+        Naming::Unnamed,
+        here,
+    );
+    let Walked::To(after, next) = w else {
+        return w;
+    };
+    emit_head(tree, out, after, at, next)
+}
+
+// n heads.
+fn walk_heads(
+    tree: &[u8],
+    out: &mut [u8],
+    diagnostics: &mut [u8],
+    locals: &mut [u32],
+    frames: &mut [u32],
+    captures: &mut [u32],
+    references: &mut [u32],
+    limits: Limits,
+    st: AnalysisStack,
+    at: usize,
+    nest: u32,
+    n: u32,
+    here: Place,
+) -> Walked
+    requires { ⌜ Ready limits (buffers (now out) (now diagnostics) (now locals) (now frames) (now captures) (now references)) st (now tree) at nest here ⌝ }
+    requires { ⌜ Accepted (heads-at (now tree) nest n at) ⌝ }
+    ensures { λ r. ⌜ (Walks r limits (buffers (now (out .entry)) (now (diagnostics .entry)) (now (locals .entry)) (now (frames .entry)) (now (captures .entry)) (now (references .entry))) (buffers (now (out .exit)) (now (diagnostics .exit)) (now (locals .exit)) (now (frames .exit)) (now (captures .exit)) (now (references .exit))) st (λ limits σ. run-heads (now (tree .entry)) limits nest n at (place-of here) σ)) ⌝ }
+{
+    let mut state = st;
+    let mut p = at;
+    let mut i: u32 = 0;
+    while i < n {
+        let w = walk_head(
+            tree,
+            out,
+            diagnostics,
+            locals,
+            frames,
+            captures,
+            references,
+            limits,
+            state,
+            p,
+            nest,
+            here,
+        );
+        match w {
+            Walked::To(after, next) => {
+                state = after;
+                p = next;
+            }
+            Walked::Refused(number, place) => {
+                return Walked::Refused(number, place);
+            }
+        }
+        i += 1;
+    }
+    Walked::To(state, p)
+}
+
+// The value of the field whose head stands at `head`, in a using frame.
+fn walk_value(
+    tree: &[u8],
+    out: &mut [u8],
+    diagnostics: &mut [u8],
+    locals: &mut [u32],
+    frames: &mut [u32],
+    captures: &mut [u32],
+    references: &mut [u32],
+    limits: Limits,
+    st: AnalysisStack,
+    at: usize,
+    nest: u32,
+    head: usize,
+    here: Place,
+) -> Walked
+    requires { ⌜ Ready limits (buffers (now out) (now diagnostics) (now locals) (now frames) (now captures) (now references)) st (now tree) at nest here ⌝ }
+    requires { ⌜ Accepted (values-at (now tree) nest 1 head at) ⌝ }
+    ensures { λ r. ⌜ (Walks r limits (buffers (now (out .entry)) (now (diagnostics .entry)) (now (locals .entry)) (now (frames .entry)) (now (captures .entry)) (now (references .entry))) (buffers (now (out .exit)) (now (diagnostics .exit)) (now (locals .exit)) (now (frames .exit)) (now (captures .exit)) (now (references .exit))) st (λ limits σ. run-values (now (tree .entry)) limits nest 1 head at (place-of here) σ)) ⌝ }
+{
+    let opened = open_frame(frames, limits, st, at, false);
+    let Step::Ok(inside) = opened else {
+        return not_opened(opened);
+    };
+    let w = analyze(
+        tree,
+        out,
+        diagnostics,
+        locals,
+        frames,
+        captures,
+        references,
+        limits,
+        inside,
+        at,
+        nest,
+        head_naming(tree, head),
+        here,
+    );
+    let Walked::To(after, next) = w else {
+        return w;
+    };
+    close_value(out, frames, captures, after, at, next)
+}
+
+// The values of n fields, whose heads stand from `heads` on.
+fn walk_values(
+    tree: &[u8],
+    out: &mut [u8],
+    diagnostics: &mut [u8],
+    locals: &mut [u32],
+    frames: &mut [u32],
+    captures: &mut [u32],
+    references: &mut [u32],
+    limits: Limits,
+    st: AnalysisStack,
+    at: usize,
+    nest: u32,
+    n: u32,
+    heads: usize,
+    here: Place,
+) -> Walked
+    requires { ⌜ Ready limits (buffers (now out) (now diagnostics) (now locals) (now frames) (now captures) (now references)) st (now tree) at nest here ⌝ }
+    requires { ⌜ Accepted (values-at (now tree) nest n heads at) ⌝ }
+    ensures { λ r. ⌜ (Walks r limits (buffers (now (out .entry)) (now (diagnostics .entry)) (now (locals .entry)) (now (frames .entry)) (now (captures .entry)) (now (references .entry))) (buffers (now (out .exit)) (now (diagnostics .exit)) (now (locals .exit)) (now (frames .exit)) (now (captures .exit)) (now (references .exit))) st (λ limits σ. run-values (now (tree .entry)) limits nest n heads at (place-of here) σ)) ⌝ }
+{
+    let mut state = st;
+    let mut p = at;
+    let mut head = heads;
+    let mut i: u32 = 0;
+    while i < n {
+        let w = walk_value(
+            tree,
+            out,
+            diagnostics,
+            locals,
+            frames,
+            captures,
+            references,
+            limits,
+            state,
+            p,
+            nest,
+            head,
+            here,
+        );
+        match w {
+            Walked::To(after, next) => {
+                state = after;
+                p = next;
+            }
+            Walked::Refused(number, place) => {
+                return Walked::Refused(number, place);
+            }
+        }
+        head = after_head(tree, head);
+        i += 1;
+    }
+    Walked::To(state, p)
+}
+
+// A bind, of which `kept` of its frame were kept before: its value in a using frame, then its record if it is kept.
+fn walk_bind(
+    tree: &[u8],
+    out: &mut [u8],
+    diagnostics: &mut [u8],
+    locals: &mut [u32],
+    frames: &mut [u32],
+    captures: &mut [u32],
+    references: &mut [u32],
+    limits: Limits,
+    st: AnalysisStack,
+    at: usize,
+    nest: u32,
+    base: u32,
+    kept: u32,
+    here: Place,
+) -> Specs
+    requires { ⌜ Ready limits (buffers (now out) (now diagnostics) (now locals) (now frames) (now captures) (now references)) st (now tree) at nest here ⌝ }
+    requires { ⌜ Accepted (binds-at (now tree) nest 1 at) × (kept ≤ 16777216) × (base ≤ 1) ⌝ }
+    ensures { λ r. ⌜ (Walks-specs r limits (buffers (now (out .entry)) (now (diagnostics .entry)) (now (locals .entry)) (now (frames .entry)) (now (captures .entry)) (now (references .entry))) (buffers (now (out .exit)) (now (diagnostics .exit)) (now (locals .exit)) (now (frames .exit)) (now (captures .exit)) (now (references .exit))) st (λ limits σ. run-binds (now (tree .entry)) limits nest 1 at base kept (place-of here) σ)) ⌝ }
+{
+    let opened = open_value(frames, limits, st, at);
+    let Step::Ok(inside) = opened else {
+        return no_value(opened);
+    };
+    let w = analyze(
+        tree,
+        out,
+        diagnostics,
+        locals,
+        frames,
+        captures,
+        references,
+        limits,
+        inside,
+        at + 10,
+        nest,
+        bind_naming(tree, at),
+        here,
+    );
+    let Walked::To(after, next) = w else {
+        return no_spec(w);
+    };
+    close_spec(
+        out,
+        locals,
+        references,
+        frames,
+        captures,
+        limits,
+        after,
+        at,
+        base,
+        kept,
+        st.out,
+        st.taint,
+        Spec::Bind,
+        next,
+    )
+}
+
+// n binds of a frame, whose slots before `base` are not for binds.
+fn walk_binds(
+    tree: &[u8],
+    out: &mut [u8],
+    diagnostics: &mut [u8],
+    locals: &mut [u32],
+    frames: &mut [u32],
+    captures: &mut [u32],
+    references: &mut [u32],
+    limits: Limits,
+    st: AnalysisStack,
+    at: usize,
+    nest: u32,
+    n: u32,
+    base: u32,
+    here: Place,
+) -> Specs
+    requires { ⌜ Ready limits (buffers (now out) (now diagnostics) (now locals) (now frames) (now captures) (now references)) st (now tree) at nest here ⌝ }
+    requires { ⌜ Accepted (binds-at (now tree) nest n at) × (base ≤ 1) ⌝ }
+    ensures { λ r. ⌜ (Walks-specs r limits (buffers (now (out .entry)) (now (diagnostics .entry)) (now (locals .entry)) (now (frames .entry)) (now (captures .entry)) (now (references .entry))) (buffers (now (out .exit)) (now (diagnostics .exit)) (now (locals .exit)) (now (frames .exit)) (now (captures .exit)) (now (references .exit))) st (λ limits σ. run-binds (now (tree .entry)) limits nest n at base 0 (place-of here) σ)) ⌝ }
+{
+    let mut state = st;
+    let mut p = at;
+    let mut kept: u32 = 0;
+    let mut i: u32 = 0;
+    while i < n {
+        let w = walk_bind(
+            tree,
+            out,
+            diagnostics,
+            locals,
+            frames,
+            captures,
+            references,
+            limits,
+            state,
+            p,
+            nest,
+            base,
+            kept,
+            here,
+        );
+        match w {
+            Specs::To(after, next, count) => {
+                state = after;
+                p = next;
+                kept = count;
+            }
+            Specs::Refused(number, place) => {
+                return Specs::Refused(number, place);
+            }
+        }
+        i += 1;
+    }
+    Specs::To(state, p, kept)
+}
+
+// A parameter, of which `kept` of its frame were kept before.
+fn walk_param(
+    tree: &[u8],
+    out: &mut [u8],
+    diagnostics: &mut [u8],
+    locals: &mut [u32],
+    frames: &mut [u32],
+    captures: &mut [u32],
+    references: &mut [u32],
+    limits: Limits,
+    st: AnalysisStack,
+    at: usize,
+    nest: u32,
+    kept: u32,
+    here: Place,
+) -> Specs
+    requires { ⌜ Ready limits (buffers (now out) (now diagnostics) (now locals) (now frames) (now captures) (now references)) st (now tree) at nest here ⌝ }
+    requires { ⌜ Accepted (params-at (now tree) nest 1 at) × (kept ≤ 16777216) ⌝ }
+    ensures { λ r. ⌜ (Walks-specs r limits (buffers (now (out .entry)) (now (diagnostics .entry)) (now (locals .entry)) (now (frames .entry)) (now (captures .entry)) (now (references .entry))) (buffers (now (out .exit)) (now (diagnostics .exit)) (now (locals .exit)) (now (frames .exit)) (now (captures .exit)) (now (references .exit))) st (λ limits σ. run-params (now (tree .entry)) limits nest 1 at kept (place-of here) σ)) ⌝ }
+{
+    let name = number_at(tree, at + 2);
+    if number_at(tree, at + 10) == 0 {
+        let mut fresh = st;
+        fresh.taint = AnalysisResult::no_dependence();
+        return record_spec_init(
+            out,
+            locals,
+            references,
+            frames,
+            limits,
+            fresh,
+            at,
+            0,
+            kept,
+            st.out,
+            st.taint,
+            Spec::Param(name, 0),
+            at + 14,
+        );
+    }
+    let opened = open_value(frames, limits, st, at);
+    let Step::Ok(inside) = opened else {
+        return no_value(opened);
+    };
+    let w = analyze(
+        tree,
+        out,
+        diagnostics,
+        locals,
+        frames,
+        captures,
+        references,
+        limits,
+        inside,
+        at + 14,
+        nest,
+        Naming::Unnamed,
+        here,
+    );
+    let Walked::To(after, next) = w else {
+        return no_spec(w);
+    };
+    close_spec(
+        out,
+        locals,
+        references,
+        frames,
+        captures,
+        limits,
+        after,
+        at,
+        0,
+        kept,
+        st.out,
+        st.taint,
+        Spec::Param(name, 1),
+        next,
+    )
+}
+
+// n parameters.
+fn walk_params(
+    tree: &[u8],
+    out: &mut [u8],
+    diagnostics: &mut [u8],
+    locals: &mut [u32],
+    frames: &mut [u32],
+    captures: &mut [u32],
+    references: &mut [u32],
+    limits: Limits,
+    st: AnalysisStack,
+    at: usize,
+    nest: u32,
+    n: u32,
+    here: Place,
+) -> Specs
+    requires { ⌜ Ready limits (buffers (now out) (now diagnostics) (now locals) (now frames) (now captures) (now references)) st (now tree) at nest here ⌝ }
+    requires { ⌜ Accepted (params-at (now tree) nest n at) ⌝ }
+    ensures { λ r. ⌜ (Walks-specs r limits (buffers (now (out .entry)) (now (diagnostics .entry)) (now (locals .entry)) (now (frames .entry)) (now (captures .entry)) (now (references .entry))) (buffers (now (out .exit)) (now (diagnostics .exit)) (now (locals .exit)) (now (frames .exit)) (now (captures .exit)) (now (references .exit))) st (λ limits σ. run-params (now (tree .entry)) limits nest n at 0 (place-of here) σ)) ⌝ }
+{
+    let mut state = st;
+    let mut p = at;
+    let mut kept: u32 = 0;
+    let mut i: u32 = 0;
+    while i < n {
+        let w = walk_param(
+            tree,
+            out,
+            diagnostics,
+            locals,
+            frames,
+            captures,
+            references,
+            limits,
+            state,
+            p,
+            nest,
+            kept,
+            here,
+        );
+        match w {
+            Specs::To(after, next, count) => {
+                state = after;
+                p = next;
+                kept = count;
+            }
+            Specs::Refused(number, place) => {
+                return Specs::Refused(number, place);
+            }
+        }
+        i += 1;
+    }
+    Specs::To(state, p, kept)
+}
