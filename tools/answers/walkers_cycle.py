@@ -373,7 +373,7 @@ def length_of(member):
             if 'before' not in fs: return ' ∙ '.join(parts) if parts else 'search needs'
             typ=fs['before'].split(' ')[0]; p+=' .before'
     return answer
-LENGTHS=lengths(os.environ.get('GENERATED','/tmp/me/gen'))
+LENGTHS=lengths(os.environ['GENERATED'])
 answers={C:[(f'μ-{k}' ,f'16 * {NEST}'+(f' + {v}' if v else '')) for k,v in rank.items()]+invs
  +[(n.replace('_','-')+r'-same-length(-\d+)?',length_of(n.replace('_','-'))) for n in names]+coded(exprs+items)+unfolded(held+array+plain+local+function+objects+members+fields+assertions+values+loops+heads+binds+params)
  +[('.*','search needs')]}

@@ -1,1 +1,1 @@
-// Definitions only: specs/ holds document 01, proofs/ what is shown of it.
+// Statements and laws only: specs/ says what a walker asks, proofs/ how walks follow one another.

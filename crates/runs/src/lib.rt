@@ -1,1 +1,1 @@
-// Definitions only: specs/ holds document 01, proofs/ what is shown of it.
+// Definitions only: specs/ says the analysis from a place of the bytes, proofs/ what is shown of it.

@@ -358,25 +358,25 @@ walk-assertions-returns-4 t c =
     assertions-ended (args· .tree .now) (args· .nest) (args· .n) (args· .at) (place-of (args· .here)) (pre· .1 .1) (if1· .left) (opened (open-frame· .ensures) ((pre· .1 .0) .fit)) (opened· .given .1) (record { out = refl; diagnostics = refl }) (walk-items· .ensures) (w· .given .1) (record { out = walk-items· .kept .1 .0; diagnostics = walk-items· .kept .1 .1 .0 }) (close-assertions· .ensures .walks _ _ _ _ (went-fit (walk-items· .ensures) (w· .given .1)))
 
 pub walk-assertions-met : {M : Type 1} (t : ℕ) → walk-assertions-lts.Closed (
-      open-frame-reads.Asked,
-      open-frame-reads.Learnt,
-      not-opened-reads.Asked,
-      not-opened-reads.Learnt,
-      walk-items-below t,
-      walk-items.Post,
-      close-assertions-reads.Asked,
-      close-assertions-reads.Learnt,
-    ) (walk-assertions-at t) walk-assertions.Post M
+  open-frame-reads.Asked,
+  open-frame-reads.Learnt,
+  not-opened-reads.Asked,
+  not-opened-reads.Learnt,
+  walk-items-below t,
+  walk-items.Post,
+  close-assertions-reads.Asked,
+  close-assertions-reads.Learnt,
+) (walk-assertions-at t) walk-assertions.Post M
 walk-assertions-met t = walk-assertions-lts.spec (
-      open-frame-reads.Asked,
-      open-frame-reads.Learnt,
-      not-opened-reads.Asked,
-      not-opened-reads.Learnt,
-      walk-items-below t,
-      walk-items.Post,
-      close-assertions-reads.Asked,
-      close-assertions-reads.Learnt,
-    )
+  open-frame-reads.Asked,
+  open-frame-reads.Learnt,
+  not-opened-reads.Asked,
+  not-opened-reads.Learnt,
+  walk-items-below t,
+  walk-items.Post,
+  close-assertions-reads.Asked,
+  close-assertions-reads.Learnt,
+)
     (walk-assertions-at t)
     walk-assertions.Post
     (walk-assertions-returns t)

@@ -507,33 +507,33 @@ walk-bind-returns-3 t c =
     bind-ended (args· .tree .now) (args· .nest) (args· .at) (args· .base) (args· .kept) ((pre· .1 .1) .0) (place-of (args· .here)) (open-value· .ensures .opened _ _ _ _ _ ((pre· .1 .0) .fit)) (opened· .given .1) (record { out = refl; diagnostics = refl }) (bind-naming· .ensures) (analyze· .ensures) (w· .given .1) (record { out = analyze· .kept .1 .0; diagnostics = analyze· .kept .1 .1 .0 }) (written-counted _ _ ((pre· .1 .0) .fit)) refl refl refl (close-spec· .ensures .walks _ (went-fit (analyze· .ensures) (w· .given .1)))
 
 pub walk-bind-met : {M : Type 1} (t : ℕ) → walk-bind-lts.Closed (
-      open-value-reads.Asked,
-      open-value-reads.Learnt,
-      no-value-reads.Asked,
-      no-value-reads.Learnt,
-      bind-naming-reads.Asked,
-      bind-naming-reads.Learnt,
-      analyze-below t,
-      analyze.Post,
-      no-spec-reads.Asked,
-      no-spec-reads.Learnt,
-      close-spec-reads.Asked,
-      close-spec-reads.Learnt,
-    ) (walk-bind-at t) walk-bind.Post M
+  open-value-reads.Asked,
+  open-value-reads.Learnt,
+  no-value-reads.Asked,
+  no-value-reads.Learnt,
+  bind-naming-reads.Asked,
+  bind-naming-reads.Learnt,
+  analyze-below t,
+  analyze.Post,
+  no-spec-reads.Asked,
+  no-spec-reads.Learnt,
+  close-spec-reads.Asked,
+  close-spec-reads.Learnt,
+) (walk-bind-at t) walk-bind.Post M
 walk-bind-met t = walk-bind-lts.spec (
-      open-value-reads.Asked,
-      open-value-reads.Learnt,
-      no-value-reads.Asked,
-      no-value-reads.Learnt,
-      bind-naming-reads.Asked,
-      bind-naming-reads.Learnt,
-      analyze-below t,
-      analyze.Post,
-      no-spec-reads.Asked,
-      no-spec-reads.Learnt,
-      close-spec-reads.Asked,
-      close-spec-reads.Learnt,
-    )
+  open-value-reads.Asked,
+  open-value-reads.Learnt,
+  no-value-reads.Asked,
+  no-value-reads.Learnt,
+  bind-naming-reads.Asked,
+  bind-naming-reads.Learnt,
+  analyze-below t,
+  analyze.Post,
+  no-spec-reads.Asked,
+  no-spec-reads.Learnt,
+  close-spec-reads.Asked,
+  close-spec-reads.Learnt,
+)
     (walk-bind-at t)
     walk-bind.Post
     (walk-bind-open-value-requires t)

@@ -16,11 +16,11 @@ use Rattle.walkers.proofs.+analyze+analyze_function+analyze_obj_members
 
 abbrev walk-binds-Inv-loop : walk-binds-lts.InvT-loop
 walk-binds-Inv-loop tree out₀ diagnostics₀ locals₀ frames₀ captures₀ references₀ limits at nest n base here state₀ p₀ kept₀ i₀ out diagnostics locals frames captures references state p kept i =
- Turn-specs (λ n p. Accepted (binds-at tree nest n p)) (λ n p kept L σ. run-binds tree L nest n p base kept (place-of here) σ) limits tree nest here (buffers out₀ diagnostics₀ locals₀ frames₀ captures₀ references₀) state₀ at n (buffers out diagnostics locals frames captures references) state p kept i
+    Turn-specs (λ n p. Accepted (binds-at tree nest n p)) (λ n p kept L σ. run-binds tree L nest n p base kept (place-of here) σ) limits tree nest here (buffers out₀ diagnostics₀ locals₀ frames₀ captures₀ references₀) state₀ at n (buffers out diagnostics locals frames captures references) state p kept i
 
 abbrev walk-binds-μ-loop : walk-binds-lts.MeasureT-loop
 walk-binds-μ-loop tree out₀ diagnostics₀ locals₀ frames₀ captures₀ references₀ limits at nest n base here state₀ p₀ kept₀ i₀ out diagnostics locals frames captures references state p kept i =
- n - i
+    n - i
 
 walk-binds-loop-holds : (t : ℕ) → walk-binds-lts.Need-loop-holds (
   walk-bind-below t,

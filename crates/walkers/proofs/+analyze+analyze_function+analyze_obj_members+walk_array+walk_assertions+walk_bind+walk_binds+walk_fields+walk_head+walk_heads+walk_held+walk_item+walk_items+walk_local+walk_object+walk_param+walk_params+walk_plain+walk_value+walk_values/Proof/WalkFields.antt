@@ -274,21 +274,21 @@ walk-fields-returns-2 t c =
     fields-ended (args· .tree .now) (args· .nest) (args· .object) (args· .at) (place-of (args· .here)) (number-at· .ensures) (walk-assertions· .ensures) (w· .given .1) (record { out = walk-assertions· .kept .1 .0; diagnostics = walk-assertions· .kept .1 .1 .0 }) (number-at2· .ensures) (walk-values· .ensures)
 
 pub walk-fields-met : {M : Type 1} (t : ℕ) → walk-fields-lts.Closed (
-      number-at-reads.Asked,
-      number-at-reads.Learnt,
-      walk-assertions-below t,
-      walk-assertions.Post,
-      walk-values-below t,
-      walk-values.Post,
-    ) (walk-fields-at t) walk-fields.Post M
+  number-at-reads.Asked,
+  number-at-reads.Learnt,
+  walk-assertions-below t,
+  walk-assertions.Post,
+  walk-values-below t,
+  walk-values.Post,
+) (walk-fields-at t) walk-fields.Post M
 walk-fields-met t = walk-fields-lts.spec (
-      number-at-reads.Asked,
-      number-at-reads.Learnt,
-      walk-assertions-below t,
-      walk-assertions.Post,
-      walk-values-below t,
-      walk-values.Post,
-    )
+  number-at-reads.Asked,
+  number-at-reads.Learnt,
+  walk-assertions-below t,
+  walk-assertions.Post,
+  walk-values-below t,
+  walk-values.Post,
+)
     (walk-fields-at t)
     walk-fields.Post
     (walk-fields-add-number-at t)

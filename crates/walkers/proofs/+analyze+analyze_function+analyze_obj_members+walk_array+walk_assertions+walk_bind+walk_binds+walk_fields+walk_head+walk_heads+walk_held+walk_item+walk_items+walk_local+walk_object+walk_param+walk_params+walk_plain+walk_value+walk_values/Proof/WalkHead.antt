@@ -314,21 +314,21 @@ walk-head-returns-3 t c =
     head-ended (args· .tree .now) (args· .nest) (args· .at) (pre· .1 .1) (place-of (args· .here)) (number-at· .ensures) (if1· .left) (analyze· .ensures) (w· .given .1) (record { out = analyze· .kept .1 .0; diagnostics = analyze· .kept .1 .1 .0 }) (emit-head2· .ensures .walks (args· .limits) _ _ _ _ _ (went-fit (analyze· .ensures) (w· .given .1)))
 
 pub walk-head-met : {M : Type 1} (t : ℕ) → walk-head-lts.Closed (
-      number-at-reads.Asked,
-      number-at-reads.Learnt,
-      emit-head-reads.Asked,
-      emit-head-reads.Learnt,
-      analyze-below t,
-      analyze.Post,
-    ) (walk-head-at t) walk-head.Post M
+  number-at-reads.Asked,
+  number-at-reads.Learnt,
+  emit-head-reads.Asked,
+  emit-head-reads.Learnt,
+  analyze-below t,
+  analyze.Post,
+) (walk-head-at t) walk-head.Post M
 walk-head-met t = walk-head-lts.spec (
-      number-at-reads.Asked,
-      number-at-reads.Learnt,
-      emit-head-reads.Asked,
-      emit-head-reads.Learnt,
-      analyze-below t,
-      analyze.Post,
-    )
+  number-at-reads.Asked,
+  number-at-reads.Learnt,
+  emit-head-reads.Asked,
+  emit-head-reads.Learnt,
+  analyze-below t,
+  analyze.Post,
+)
     (walk-head-at t)
     walk-head.Post
     (walk-head-add-number-at t)

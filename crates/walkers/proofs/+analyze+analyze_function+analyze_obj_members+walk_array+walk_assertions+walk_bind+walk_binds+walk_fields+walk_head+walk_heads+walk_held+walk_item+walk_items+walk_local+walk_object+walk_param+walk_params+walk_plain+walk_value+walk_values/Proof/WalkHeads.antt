@@ -15,11 +15,11 @@ use Rattle.walkers.proofs.+analyze+analyze_function+analyze_obj_members
 
 abbrev walk-heads-Inv-loop : walk-heads-lts.InvT-loop
 walk-heads-Inv-loop tree out₀ diagnostics₀ locals₀ frames₀ captures₀ references₀ limits at nest n here state₀ p₀ i₀ out diagnostics locals frames captures references state p i =
- Turn (λ n p. Accepted (heads-at tree nest n p)) (λ n p L σ. run-heads tree L nest n p (place-of here) σ) limits tree nest here (buffers out₀ diagnostics₀ locals₀ frames₀ captures₀ references₀) state₀ at n (buffers out diagnostics locals frames captures references) state p i
+    Turn (λ n p. Accepted (heads-at tree nest n p)) (λ n p L σ. run-heads tree L nest n p (place-of here) σ) limits tree nest here (buffers out₀ diagnostics₀ locals₀ frames₀ captures₀ references₀) state₀ at n (buffers out diagnostics locals frames captures references) state p i
 
 abbrev walk-heads-μ-loop : walk-heads-lts.MeasureT-loop
 walk-heads-μ-loop tree out₀ diagnostics₀ locals₀ frames₀ captures₀ references₀ limits at nest n here state₀ p₀ i₀ out diagnostics locals frames captures references state p i =
- n - i
+    n - i
 
 walk-heads-loop-holds : (t : ℕ) → walk-heads-lts.Need-loop-holds (
   walk-head-below t,

@@ -502,21 +502,21 @@ walk-held-returns-4 t c =
     held-two-ended (args· .tree .now) (args· .nest) (args· .at) ((pre· .1 .1) .read) ((pre· .1 .1) .marked) (place-of (args· .here)) ((pre· .1 .1) .holder) (children-here (args· .tree .now) (args· .mark) (args· .at) (children· .ensures)) (analyze· .ensures) (if1· .left) (first· .given .1) (record { out = analyze· .kept .1 .0; diagnostics = analyze· .kept .1 .1 .0 }) (analyze2· .ensures) (second· .given .1) (record { out = analyze2· .kept .1 .0; diagnostics = analyze2· .kept .1 .1 .0 }) (copy-record2· .ensures .walks (args· .limits) _ _ _ _ _ (went-fit (analyze2· .ensures) (second· .given .1)))
 
 pub walk-held-met : {M : Type 1} (t : ℕ) → walk-held-lts.Closed (
-      children-reads.Asked,
-      children-reads.Learnt,
-      analyze-below t,
-      analyze.Post,
-      copy-record-reads.Asked,
-      copy-record-reads.Learnt,
-    ) (walk-held-at t) walk-held.Post M
+  children-reads.Asked,
+  children-reads.Learnt,
+  analyze-below t,
+  analyze.Post,
+  copy-record-reads.Asked,
+  copy-record-reads.Learnt,
+) (walk-held-at t) walk-held.Post M
 walk-held-met t = walk-held-lts.spec (
-      children-reads.Asked,
-      children-reads.Learnt,
-      analyze-below t,
-      analyze.Post,
-      copy-record-reads.Asked,
-      copy-record-reads.Learnt,
-    )
+  children-reads.Asked,
+  children-reads.Learnt,
+  analyze-below t,
+  analyze.Post,
+  copy-record-reads.Asked,
+  copy-record-reads.Learnt,
+)
     (walk-held-at t)
     walk-held.Post
     (walk-held-sub-children t)

@@ -382,21 +382,21 @@ walk-item-returns-4 t c =
     item-plain (args· .tree .now) (args· .nest) (args· .at) (pre· .1 .1) (sym (mark-at· .ensures .0)) (place-of (args· .here)) (λ e. match· .rest .0 .0 .1 e) (λ e. match· .rest .0 .1 e) (λ e. match· .rest .1 e) (analyze· .ensures)
 
 pub walk-item-met : {M : Type 1} (t : ℕ) → walk-item-lts.Closed (
-      mark-at-reads.Asked,
-      mark-at-reads.Learnt,
-      walk-held-below t,
-      walk-held.Post,
-      analyze-below t,
-      analyze.Post,
-    ) (walk-item-at t) walk-item.Post M
+  mark-at-reads.Asked,
+  mark-at-reads.Learnt,
+  walk-held-below t,
+  walk-held.Post,
+  analyze-below t,
+  analyze.Post,
+) (walk-item-at t) walk-item.Post M
 walk-item-met t = walk-item-lts.spec (
-      mark-at-reads.Asked,
-      mark-at-reads.Learnt,
-      walk-held-below t,
-      walk-held.Post,
-      analyze-below t,
-      analyze.Post,
-    )
+  mark-at-reads.Asked,
+  mark-at-reads.Learnt,
+  walk-held-below t,
+  walk-held.Post,
+  analyze-below t,
+  analyze.Post,
+)
     (walk-item-at t)
     walk-item.Post
     (walk-item-mark-at-requires t)

@@ -15,11 +15,11 @@ use Rattle.walkers.proofs.+analyze+analyze_function+analyze_obj_members
 
 abbrev walk-items-Inv-loop : walk-items-lts.InvT-loop
 walk-items-Inv-loop tree out₀ diagnostics₀ locals₀ frames₀ captures₀ references₀ limits at nest n here state₀ p₀ i₀ out diagnostics locals frames captures references state p i =
- Turn (λ n p. Accepted (items-at tree nest n p)) (λ n p L σ. run-items tree L nest n p (place-of here) σ) limits tree nest here (buffers out₀ diagnostics₀ locals₀ frames₀ captures₀ references₀) state₀ at n (buffers out diagnostics locals frames captures references) state p i
+    Turn (λ n p. Accepted (items-at tree nest n p)) (λ n p L σ. run-items tree L nest n p (place-of here) σ) limits tree nest here (buffers out₀ diagnostics₀ locals₀ frames₀ captures₀ references₀) state₀ at n (buffers out diagnostics locals frames captures references) state p i
 
 abbrev walk-items-μ-loop : walk-items-lts.MeasureT-loop
 walk-items-μ-loop tree out₀ diagnostics₀ locals₀ frames₀ captures₀ references₀ limits at nest n here state₀ p₀ i₀ out diagnostics locals frames captures references state p i =
- n - i
+    n - i
 
 walk-items-loop-holds : (t : ℕ) → walk-items-lts.Need-loop-holds (
   walk-item-below t,

@@ -273,21 +273,21 @@ walk-object-returns-2 t c =
     λ ν. object-ended (args· .tree .now) (args· .nest) (args· .at) (pre· .1 .1) ν (place-of (args· .here)) (number-at· .ensures) (walk-heads· .ensures) (heads· .given .1) (record { out = walk-heads· .kept .1 .0; diagnostics = walk-heads· .kept .1 .1 .0 }) (analyze-obj-members· .ensures)
 
 pub walk-object-met : {M : Type 1} (t : ℕ) → walk-object-lts.Closed (
-      number-at-reads.Asked,
-      number-at-reads.Learnt,
-      walk-heads-below t,
-      walk-heads.Post,
-      analyze-obj-members-below t,
-      analyze-obj-members.Post,
-    ) (walk-object-at t) walk-object.Post M
+  number-at-reads.Asked,
+  number-at-reads.Learnt,
+  walk-heads-below t,
+  walk-heads.Post,
+  analyze-obj-members-below t,
+  analyze-obj-members.Post,
+) (walk-object-at t) walk-object.Post M
 walk-object-met t = walk-object-lts.spec (
-      number-at-reads.Asked,
-      number-at-reads.Learnt,
-      walk-heads-below t,
-      walk-heads.Post,
-      analyze-obj-members-below t,
-      analyze-obj-members.Post,
-    )
+  number-at-reads.Asked,
+  number-at-reads.Learnt,
+  walk-heads-below t,
+  walk-heads.Post,
+  analyze-obj-members-below t,
+  analyze-obj-members.Post,
+)
     (walk-object-at t)
     walk-object.Post
     (walk-object-add-number-at t)

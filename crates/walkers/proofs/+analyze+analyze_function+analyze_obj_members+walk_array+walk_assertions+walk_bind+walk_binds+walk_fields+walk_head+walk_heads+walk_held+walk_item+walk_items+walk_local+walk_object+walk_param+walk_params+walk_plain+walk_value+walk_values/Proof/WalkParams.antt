@@ -16,11 +16,11 @@ use Rattle.walkers.proofs.+analyze+analyze_function+analyze_obj_members
 
 abbrev walk-params-Inv-loop : walk-params-lts.InvT-loop
 walk-params-Inv-loop tree out₀ diagnostics₀ locals₀ frames₀ captures₀ references₀ limits at nest n here state₀ p₀ kept₀ i₀ out diagnostics locals frames captures references state p kept i =
- Turn-specs (λ n p. Accepted (params-at tree nest n p)) (λ n p kept L σ. run-params tree L nest n p kept (place-of here) σ) limits tree nest here (buffers out₀ diagnostics₀ locals₀ frames₀ captures₀ references₀) state₀ at n (buffers out diagnostics locals frames captures references) state p kept i
+    Turn-specs (λ n p. Accepted (params-at tree nest n p)) (λ n p kept L σ. run-params tree L nest n p kept (place-of here) σ) limits tree nest here (buffers out₀ diagnostics₀ locals₀ frames₀ captures₀ references₀) state₀ at n (buffers out diagnostics locals frames captures references) state p kept i
 
 abbrev walk-params-μ-loop : walk-params-lts.MeasureT-loop
 walk-params-μ-loop tree out₀ diagnostics₀ locals₀ frames₀ captures₀ references₀ limits at nest n here state₀ p₀ kept₀ i₀ out diagnostics locals frames captures references state p kept i =
- n - i
+    n - i
 
 walk-params-loop-holds : (t : ℕ) → walk-params-lts.Need-loop-holds (
   walk-param-below t,

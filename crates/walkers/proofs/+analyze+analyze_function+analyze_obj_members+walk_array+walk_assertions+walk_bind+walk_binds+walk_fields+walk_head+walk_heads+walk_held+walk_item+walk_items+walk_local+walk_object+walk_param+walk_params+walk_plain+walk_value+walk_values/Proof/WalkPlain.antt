@@ -355,25 +355,25 @@ walk-plain-returns-2 t c =
     λ ν. plain-ended (args· .tree .now) (args· .nest) (args· .mark) (args· .at) (pre· .1 .1) ν (place-of (args· .here)) (children-here (args· .tree .now) (args· .mark) (args· .at) (children· .ensures)) (size-of· .ensures .0) (walk-items· .ensures) (w· .given .1) (record { out = walk-items· .kept .1 .0; diagnostics = walk-items· .kept .1 .1 .0 }) (copy-record· .ensures .walks (args· .limits) _ _ _ _ _ (went-fit (walk-items· .ensures) (w· .given .1)))
 
 pub walk-plain-met : {M : Type 1} (t : ℕ) → walk-plain-lts.Closed (
-      children-reads.Asked,
-      children-reads.Learnt,
-      size-of-reads.Asked,
-      size-of-reads.Learnt,
-      walk-items-below t,
-      walk-items.Post,
-      copy-record-reads.Asked,
-      copy-record-reads.Learnt,
-    ) (walk-plain-at t) walk-plain.Post M
+  children-reads.Asked,
+  children-reads.Learnt,
+  size-of-reads.Asked,
+  size-of-reads.Learnt,
+  walk-items-below t,
+  walk-items.Post,
+  copy-record-reads.Asked,
+  copy-record-reads.Learnt,
+) (walk-plain-at t) walk-plain.Post M
 walk-plain-met t = walk-plain-lts.spec (
-      children-reads.Asked,
-      children-reads.Learnt,
-      size-of-reads.Asked,
-      size-of-reads.Learnt,
-      walk-items-below t,
-      walk-items.Post,
-      copy-record-reads.Asked,
-      copy-record-reads.Learnt,
-    )
+  children-reads.Asked,
+  children-reads.Learnt,
+  size-of-reads.Asked,
+  size-of-reads.Learnt,
+  walk-items-below t,
+  walk-items.Post,
+  copy-record-reads.Asked,
+  copy-record-reads.Learnt,
+)
     (walk-plain-at t)
     walk-plain.Post
     (walk-plain-sub-children t)

@@ -414,29 +414,29 @@ walk-value-returns-3 t c =
     value-ended (args· .tree .now) (args· .nest) (args· .head) (args· .at) (pre· .1 .1) (place-of (args· .here)) (opened (open-frame· .ensures) ((pre· .1 .0) .fit)) (opened· .given .1) (record { out = refl; diagnostics = refl }) (head-naming· .ensures) (analyze· .ensures) (w· .given .1) (record { out = analyze· .kept .1 .0; diagnostics = analyze· .kept .1 .1 .0 }) (close-value· .ensures .walks _ _ _ _ (went-fit (analyze· .ensures) (w· .given .1)))
 
 pub walk-value-met : {M : Type 1} (t : ℕ) → walk-value-lts.Closed (
-      open-frame-reads.Asked,
-      open-frame-reads.Learnt,
-      not-opened-reads.Asked,
-      not-opened-reads.Learnt,
-      head-naming-reads.Asked,
-      head-naming-reads.Learnt,
-      analyze-below t,
-      analyze.Post,
-      close-value-reads.Asked,
-      close-value-reads.Learnt,
-    ) (walk-value-at t) walk-value.Post M
+  open-frame-reads.Asked,
+  open-frame-reads.Learnt,
+  not-opened-reads.Asked,
+  not-opened-reads.Learnt,
+  head-naming-reads.Asked,
+  head-naming-reads.Learnt,
+  analyze-below t,
+  analyze.Post,
+  close-value-reads.Asked,
+  close-value-reads.Learnt,
+) (walk-value-at t) walk-value.Post M
 walk-value-met t = walk-value-lts.spec (
-      open-frame-reads.Asked,
-      open-frame-reads.Learnt,
-      not-opened-reads.Asked,
-      not-opened-reads.Learnt,
-      head-naming-reads.Asked,
-      head-naming-reads.Learnt,
-      analyze-below t,
-      analyze.Post,
-      close-value-reads.Asked,
-      close-value-reads.Learnt,
-    )
+  open-frame-reads.Asked,
+  open-frame-reads.Learnt,
+  not-opened-reads.Asked,
+  not-opened-reads.Learnt,
+  head-naming-reads.Asked,
+  head-naming-reads.Learnt,
+  analyze-below t,
+  analyze.Post,
+  close-value-reads.Asked,
+  close-value-reads.Learnt,
+)
     (walk-value-at t)
     walk-value.Post
     (walk-value-open-frame-requires t)

@@ -14,11 +14,11 @@ use Rattle.walkers.proofs.+analyze+analyze_function+analyze_obj_members
 
 abbrev walk-values-Inv-loop : walk-values-lts.InvT-loop
 walk-values-Inv-loop tree out₀ diagnostics₀ locals₀ frames₀ captures₀ references₀ limits at nest n heads here state₀ p₀ head₀ i₀ out diagnostics locals frames captures references state p head i =
- Turn-values limits tree nest here (buffers out₀ diagnostics₀ locals₀ frames₀ captures₀ references₀) state₀ heads at n (buffers out diagnostics locals frames captures references) state head p i
+    Turn-values limits tree nest here (buffers out₀ diagnostics₀ locals₀ frames₀ captures₀ references₀) state₀ heads at n (buffers out diagnostics locals frames captures references) state head p i
 
 abbrev walk-values-μ-loop : walk-values-lts.MeasureT-loop
 walk-values-μ-loop tree out₀ diagnostics₀ locals₀ frames₀ captures₀ references₀ limits at nest n heads here state₀ p₀ head₀ i₀ out diagnostics locals frames captures references state p head i =
- n - i
+    n - i
 
 walk-values-loop-holds : (t : ℕ) → walk-values-lts.Need-loop-holds (
   walk-value-below t,

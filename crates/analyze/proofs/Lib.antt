@@ -1,0 +1,2 @@
+-- What the proofs of the call use.
+pub mod Laws
