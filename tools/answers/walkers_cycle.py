@@ -1,12 +1,12 @@
 # The answers for the cycle of walkers, from which tools/fill.py writes its proof: python3 tools/fill.py LOG GENERATED walkers tools/answers/walkers_cycle.py
-C='+analyze+analyze_function+analyze_obj_members+walk_array+walk_assertions+walk_bind+walk_binds+walk_fields+walk_head+walk_heads+walk_held+walk_item+walk_items+walk_local+walk_object+walk_param+walk_params+walk_plain+walk_value+walk_values'
+C='+analyze+on_array+on_assertions+on_bind+on_binds+on_fields+on_function+on_head+on_heads+on_held+on_item+on_items+on_local+on_members+on_object+on_param+on_params+on_plain+on_value+on_values'
 names=C[1:].split('+')
 split={C:{n.replace('_','-'):''.join(p.capitalize() for p in n.split('_')) for n in names}}
 S='(c@args .tree .now)'; N='(c@args .nest)'; AT='(c@args .at)'; H='(place-of (c@args .here))'; L='(c@args .limits)'
 R='(c@pre .1 .0)'; A='(c@pre .1 .1)'
 NEST='a'+' .1'*10+' .0'
-rank={'walk-fields':8,'walk-array':0,'walk-local':0,'analyze-function':0,'walk-plain':0,'analyze-obj-members':1,'walk-object':2,'analyze':3,
- 'walk-held':4,'walk-bind':4,'walk-param':4,'walk-head':4,'walk-value':4,'walk-item':5,'walk-binds':5,'walk-params':5,'walk-heads':5,'walk-values':5,'walk-items':6,'walk-assertions':7}
+rank={'on-fields':8,'on-array':0,'on-local':0,'on-function':0,'on-plain':0,'on-members':1,'on-object':2,'analyze':3,
+ 'on-held':4,'on-bind':4,'on-param':4,'on-head':4,'on-value':4,'on-item':5,'on-binds':5,'on-params':5,'on-heads':5,'on-values':5,'on-items':6,'on-assertions':7}
 FIT=f'({R} .fit)'
 SAME='(record { out = refl; diagnostics = refl })'
 def LONG(x,i=1,j=2):
@@ -36,28 +36,28 @@ OPENED=f'(opened (c@open-frame .ensures) {FIT})'
 TAKEN='(c@if1 .taken)'; LEFT='(c@if1 .left)'
 ARR=f'{SNA} {A} ν {H} {EN} {ET}'
 array=[
- ('walk-array-add-number-at',OM(ASIZE)),('walk-array-add-.*',OM(ASIZE)),
- ('walk-array-emit-constants-requires',f'(let k = constants-size {SNA} {RM} (told {S} {AT} {EN} {ET} {TAKEN}) in (omega (arith, k, {EN}), omega (arith, k, {EN}, {R} .short)))'),
- ('walk-array-returns',f'λ ν. array-constant {ARR} {TAKEN} (c@emit-constants .ensures .walks {L} _ _ _ _ _ {FIT})'),
- ('walk-array-open-frame-requires',f'{R} .fit .frames-long'),
- ('walk-array-returns-2',f'λ ν. array-unopened {ARR} {LEFT} {OPENED} {fact("enum-told")} (unopened (c@not-opened .ensures) {fact("enum-told")})'),
- ('walk-array-sub-walk-items',f'omega (arith, {LEVEL})'),
- ('walk-array-walk-items-requires',call(LESS(LEVEL),on(f'(ready-opened {AT} false {R} {OPENED} {fact("opened")})'),subst_n(f'Accepted (items-at {S} ({N} - 1) k ({AT} + 6))',EN,f'(array-items {SNA} {RM} (told {S} {AT} {EN} {ET} {LEFT}))'))),
- ('walk-array-returns-3',f'λ ν. array-stopped {ARR} {LEFT} {OPENED} {fact("opened")} {SAME} (c@walk-items .ensures) {fact("enum-told2")}'),
- ('walk-array-close-array-requires',f'{fitof("walk-items",fact("w"))} .frames-kept'),
- ('walk-array-returns-4',f'λ ν. array-ended {ARR} {LEFT} {OPENED} {fact("opened")} {SAME} (c@walk-items .ensures) {fact("w")} {LONG("walk-items")} (c@close-array .ensures .walks _ _ _ _ {fitof("walk-items",fact("w"))})'),
+ ('on-array-add-number-at',OM(ASIZE)),('on-array-add-.*',OM(ASIZE)),
+ ('on-array-emit-constants-requires',f'(let k = constants-size {SNA} {RM} (told {S} {AT} {EN} {ET} {TAKEN}) in (omega (arith, k, {EN}), omega (arith, k, {EN}, {R} .short)))'),
+ ('on-array-returns',f'λ ν. array-constant {ARR} {TAKEN} (c@emit-constants .ensures .walks {L} _ _ _ _ _ {FIT})'),
+ ('on-array-open-frame-requires',f'{R} .fit .frames-long'),
+ ('on-array-returns-2',f'λ ν. array-unopened {ARR} {LEFT} {OPENED} {fact("enum-told")} (unopened (c@not-opened .ensures) {fact("enum-told")})'),
+ ('on-array-sub-on-items',f'omega (arith, {LEVEL})'),
+ ('on-array-on-items-requires',call(LESS(LEVEL),on(f'(ready-opened {AT} false {R} {OPENED} {fact("opened")})'),subst_n(f'Accepted (items-at {S} ({N} - 1) k ({AT} + 6))',EN,f'(array-items {SNA} {RM} (told {S} {AT} {EN} {ET} {LEFT}))'))),
+ ('on-array-returns-3',f'λ ν. array-stopped {ARR} {LEFT} {OPENED} {fact("opened")} {SAME} (c@on-items .ensures) {fact("enum-told2")}'),
+ ('on-array-close-array-requires',f'{fitof("on-items",fact("w"))} .frames-kept'),
+ ('on-array-returns-4',f'λ ν. array-ended {ARR} {LEFT} {OPENED} {fact("opened")} {SAME} (c@on-items .ensures) {fact("w")} {LONG("on-items")} (c@close-array .ensures .walks _ _ _ _ {fitof("on-items",fact("w"))})'),
 ]
 # plain
 PL=f'{S} {N} (c@args .mark) {AT}'
-PARGS=f'{PL} {A} ν {H} (children-here {S} (c@args .mark) {AT} (c@children .ensures)) (c@size-of .ensures .0) (c@walk-items .ensures)'
+PARGS=f'{PL} {A} ν {H} (children-here {S} (c@args .mark) {AT} (c@children .ensures)) (c@size-of .ensures .0) (c@on-items .ensures)'
 plain=[
- ('walk-plain-(sub-children|part-children-start|part-children-end)',f'omega (arith, plain-fits {A})'),
- ('walk-plain-add-below',OM(f'plain-fits {A}','c@size-of .ensures .0')),
- ('walk-plain-sub-walk-items',f'omega (arith, {LEVEL})'),
- ('walk-plain-walk-items-requires',call(LESS(LEVEL),on(R),f'plain-children {A} (children-here {S} (c@args .mark) {AT} (c@children .ensures)) (c@size-of .ensures .0)')),
- ('walk-plain-returns',f'λ ν. plain-stopped {PARGS} {fact("enum-told")}'),
- ('walk-plain-copy-record-requires',f'(plain-fits {A}, plain-marked {A})'),
- ('walk-plain-returns-2',f'λ ν. plain-ended {PARGS} {fact("w")} {LONG("walk-items")} (c@copy-record .ensures .walks {L} _ _ _ _ _ {fitof("walk-items",fact("w"))})'),
+ ('on-plain-(sub-children|part-children-start|part-children-end)',f'omega (arith, plain-fits {A})'),
+ ('on-plain-add-below',OM(f'plain-fits {A}','c@size-of .ensures .0')),
+ ('on-plain-sub-on-items',f'omega (arith, {LEVEL})'),
+ ('on-plain-on-items-requires',call(LESS(LEVEL),on(R),f'plain-children {A} (children-here {S} (c@args .mark) {AT} (c@children .ensures)) (c@size-of .ensures .0)')),
+ ('on-plain-returns',f'λ ν. plain-stopped {PARGS} {fact("enum-told")}'),
+ ('on-plain-copy-record-requires',f'(plain-fits {A}, plain-marked {A})'),
+ ('on-plain-returns-2',f'λ ν. plain-ended {PARGS} {fact("w")} {LONG("on-items")} (c@copy-record .ensures .walks {L} _ _ _ _ _ {fitof("on-items",fact("w"))})'),
 ]
 W=fact('w'); DONE=fact('begun'); SPECS=fact('specs')
 BUFS='(buffers '+' '.join(f'(c@args .{b} .now)' for b in ['out','diagnostics','locals','frames','captures','references'])+')'
@@ -69,63 +69,63 @@ LSIZE=f'(local-size {SNA} {RM})'
 LBN=f'(local-binds-there {R} {A} {EN})'
 BEGUN=f'(c@begin-local .ensures .begun ({N} - 1) {LBN} _ _ _ {FIT})'
 LO=f'{SNA} {A} ν {H} {EN}'
-STAGE=f'(local-stage {R} {A} {EN} {BEGUN} {DONE} (c@walk-binds .ensures) {SPECS})'
-SETTLED=f'(c@settle-frame .ensures .becomes _ _ _ _ _ (kept-fit (c@walk-binds .ensures) {SPECS}))'
+STAGE=f'(local-stage {R} {A} {EN} {BEGUN} {DONE} (c@on-binds .ensures) {SPECS})'
+SETTLED=f'(c@settle-frame .ensures .becomes _ _ _ _ _ (kept-fit (c@on-binds .ensures) {SPECS}))'
 BODYARGS=f'{SETTLED} (c@deeper .value) {LEVEL} {DEEP} (c@deeper .ensures .depth)'
-LREST=f'{BEGUN} {DONE} {DIAG("begin-local",1)} (c@walk-binds .ensures)'
-LREST2=f'{SPECS} {LONG("walk-binds")} {EB} {SETTLED} {SAME} {DEEP} (c@analyze2 .ensures)'
+LREST=f'{BEGUN} {DONE} {DIAG("begin-local",1)} (c@on-binds .ensures)'
+LREST2=f'{SPECS} {LONG("on-binds")} {EB} {SETTLED} {SAME} {DEEP} (c@analyze2 .ensures)'
 local=[
- ('walk-local-add-.*',OM(LSIZE)),
- ('walk-local-sub-.*',f'omega (arith, {LEVEL})'),
- ('walk-local-analyze-requires',call(LESS(LEVEL),on(R),f'local-only-body {SNA} {RM} (sym {EN} ∙ {TAKEN})')),
- ('walk-local-returns',f'λ ν. local-only {LO} {TAKEN} (c@analyze .ensures)'),
- ('walk-local-begin-local-requires',f'(record {{ levels = {N} - 1; read = {LBN} }}, {LSIZE}, omega (arith, {R} .short), fitting {FIT})'),
- ('walk-local-returns-2',f'λ ν. local-unbegun {LO} {LEFT} {BEGUN} {fact("enum-told")}'),
- ('walk-local-walk-binds-requires',call(LESS(LEVEL),on(f'(ready-local ({N} - 1) _ ({HERE} .depth) {R} {BEGUN} {DONE})'),f'({LBN}, omega arith)')),
- ('walk-local-returns-3',f'λ ν. local-binds-stopped {LO} {LEFT} {LREST} {fact("enum-told2")} (unkept (c@not-kept .ensures) {fact("enum-told2")})'),
- ('walk-local-settle-frame-requires',f'stage-settleable {STAGE}'),
- ('walk-local-deeper-requires',f'omega (arith, {R} .shallow)'),
- ('walk-local-analyze-requires-2',call(LESS(LEVEL),f'stage-body {STAGE} {SETTLED} _ {LEVEL} {DEEP} (c@deeper .ensures .depth)',f'{STAGE} .body')),
- ('walk-local-returns-4',f'λ ν. local-body-stopped {LO} {LEFT} {LREST} {LREST2} {fact("enum-told3")}'),
- ('walk-local-finish-local-requires',f'stage-ends {STAGE} {SETTLED} _ {LEVEL} {DEEP} (c@deeper .ensures .depth) unnamed (c@analyze2 .ensures) {W}'),
- ('walk-local-returns-5',f'λ ν. local-ended {LO} {LEFT} {LREST} {LREST2} {W} {LONG("analyze2")} (c@finish-local .ensures)'),
+ ('on-local-add-.*',OM(LSIZE)),
+ ('on-local-sub-.*',f'omega (arith, {LEVEL})'),
+ ('on-local-analyze-requires',call(LESS(LEVEL),on(R),f'local-only-body {SNA} {RM} (sym {EN} ∙ {TAKEN})')),
+ ('on-local-returns',f'λ ν. local-only {LO} {TAKEN} (c@analyze .ensures)'),
+ ('on-local-begin-local-requires',f'(record {{ levels = {N} - 1; read = {LBN} }}, {LSIZE}, omega (arith, {R} .short), fitting {FIT})'),
+ ('on-local-returns-2',f'λ ν. local-unbegun {LO} {LEFT} {BEGUN} {fact("enum-told")}'),
+ ('on-local-on-binds-requires',call(LESS(LEVEL),on(f'(ready-local ({N} - 1) _ ({HERE} .depth) {R} {BEGUN} {DONE})'),f'({LBN}, omega arith)')),
+ ('on-local-returns-3',f'λ ν. local-binds-stopped {LO} {LEFT} {LREST} {fact("enum-told2")} (unkept (c@not-kept .ensures) {fact("enum-told2")})'),
+ ('on-local-settle-frame-requires',f'stage-settleable {STAGE}'),
+ ('on-local-deeper-requires',f'omega (arith, {R} .shallow)'),
+ ('on-local-analyze-requires-2',call(LESS(LEVEL),f'stage-body {STAGE} {SETTLED} _ {LEVEL} {DEEP} (c@deeper .ensures .depth)',f'{STAGE} .body')),
+ ('on-local-returns-4',f'λ ν. local-body-stopped {LO} {LEFT} {LREST} {LREST2} {fact("enum-told3")}'),
+ ('on-local-finish-local-requires',f'stage-ends {STAGE} {SETTLED} _ {LEVEL} {DEEP} (c@deeper .ensures .depth) unnamed (c@analyze2 .ensures) {W}'),
+ ('on-local-returns-5',f'λ ν. local-ended {LO} {LEFT} {LREST} {LREST2} {W} {LONG("analyze2")} (c@finish-local .ensures)'),
 ]
 # functions
 FSIZE=f'(function-size {SNA} {RM})'
 FPN=f'(function-params-there {R} {A} {EN})'
 FBEGUN=f'(c@begin-function .ensures .begun ({N} - 1) {FPN} _ _ _ {FIT})'
 FN=f'{SNA} {A} (naming-of (c@args .naming)) {H} {EN}'
-FSTAGE=f'(function-stage {R} {A} {EN} {FBEGUN} {DONE} (c@walk-params .ensures) {SPECS})'
-FSETTLED=f'(c@settle-frame .ensures .becomes _ _ _ _ _ (kept-fit (c@walk-params .ensures) {SPECS}))'
-FREST=f'{FBEGUN} {DONE} {DIAG("begin-function",1)} (c@walk-params .ensures)'
-FREST2=f'{SPECS} {LONG("walk-params")} {EB} {FSETTLED} {SAME} {DEEP} (c@analyze .ensures)'
+FSTAGE=f'(function-stage {R} {A} {EN} {FBEGUN} {DONE} (c@on-params .ensures) {SPECS})'
+FSETTLED=f'(c@settle-frame .ensures .becomes _ _ _ _ _ (kept-fit (c@on-params .ensures) {SPECS}))'
+FREST=f'{FBEGUN} {DONE} {DIAG("begin-function",1)} (c@on-params .ensures)'
+FREST2=f'{SPECS} {LONG("on-params")} {EB} {FSETTLED} {SAME} {DEEP} (c@analyze .ensures)'
 FIRST=f'(λ some. omega (arith, function-first-size {SNA} {RM} (omega (arith, some, {EN}))))'
 function=[
- ('analyze-function-add-.*',OM(FSIZE)),
- ('analyze-function-sub-.*',f'omega (arith, {LEVEL})'),
- ('analyze-function-begin-function-requires',f'(record {{ levels = {N} - 1; read = {FPN} }}, {FSIZE}, omega (arith, {R} .short), fitting {FIT})'),
- ('analyze-function-returns',f'function-unbegun {FN} {FBEGUN} {fact("enum-told")}'),
- ('analyze-function-walk-params-requires',call(LESS(LEVEL),on(f'(ready-function ({N} - 1) _ ({HERE} .depth) {R} {FBEGUN} {DONE})'),FPN)),
- ('analyze-function-returns-2',f'function-params-stopped {FN} {FREST} {fact("enum-told2")} (unkept (c@not-kept .ensures) {fact("enum-told2")})'),
- ('analyze-function-settle-frame-requires',f'stage-settleable {FSTAGE}'),
- ('analyze-function-deeper-requires',f'omega (arith, {R} .shallow)'),
- ('analyze-function-analyze-requires',call(LESS(LEVEL),f'stage-body {FSTAGE} {FSETTLED} _ {LEVEL} {DEEP} (c@deeper .ensures .depth)',f'{FSTAGE} .body')),
- ('analyze-function-returns-3',f'function-body-stopped {FN} {FREST} {FREST2} {fact("enum-told3")}'),
- ('analyze-function-first-defaults-requires',f'({R} .short, {FIRST})'),
- ('analyze-function-finish-function-requires',f'stage-ends {FSTAGE} {FSETTLED} _ {LEVEL} {DEEP} (c@deeper .ensures .depth) unnamed (c@analyze .ensures) {W}'),
- ('analyze-function-returns-4',f'function-ended {FN} {FREST} {FREST2} {W} {LONG("analyze")} (c@number-at2 .ensures) (written-counted _ _ {FIT}) (written-counted _ _ (kept-fit (c@walk-params .ensures) {SPECS})) (c@first-defaults .ensures) (c@finish-function .ensures)'),
+ ('on-function-add-.*',OM(FSIZE)),
+ ('on-function-sub-.*',f'omega (arith, {LEVEL})'),
+ ('on-function-begin-function-requires',f'(record {{ levels = {N} - 1; read = {FPN} }}, {FSIZE}, omega (arith, {R} .short), fitting {FIT})'),
+ ('on-function-returns',f'function-unbegun {FN} {FBEGUN} {fact("enum-told")}'),
+ ('on-function-on-params-requires',call(LESS(LEVEL),on(f'(ready-function ({N} - 1) _ ({HERE} .depth) {R} {FBEGUN} {DONE})'),FPN)),
+ ('on-function-returns-2',f'function-params-stopped {FN} {FREST} {fact("enum-told2")} (unkept (c@not-kept .ensures) {fact("enum-told2")})'),
+ ('on-function-settle-frame-requires',f'stage-settleable {FSTAGE}'),
+ ('on-function-deeper-requires',f'omega (arith, {R} .shallow)'),
+ ('on-function-analyze-requires',call(LESS(LEVEL),f'stage-body {FSTAGE} {FSETTLED} _ {LEVEL} {DEEP} (c@deeper .ensures .depth)',f'{FSTAGE} .body')),
+ ('on-function-returns-3',f'function-body-stopped {FN} {FREST} {FREST2} {fact("enum-told3")}'),
+ ('on-function-first-defaults-requires',f'({R} .short, {FIRST})'),
+ ('on-function-finish-function-requires',f'stage-ends {FSTAGE} {FSETTLED} _ {LEVEL} {DEEP} (c@deeper .ensures .depth) unnamed (c@analyze .ensures) {W}'),
+ ('on-function-returns-4',f'function-ended {FN} {FREST} {FREST2} {W} {LONG("analyze")} (c@number-at2 .ensures) (written-counted _ _ {FIT}) (written-counted _ _ (kept-fit (c@on-params .ensures) {SPECS})) (c@first-defaults .ensures) (c@finish-function .ensures)'),
 ]
 # objects
 OSIZE=f'(object-size {SNA} {RM})'
 HEADS=fact('heads')
-OB=f'{SNA} {A} ν {H} {EN} (c@walk-heads .ensures)'
+OB=f'{SNA} {A} ν {H} {EN} (c@on-heads .ensures)'
 objects=[
- ('walk-object-add-.*',OM(OSIZE)),
- ('walk-object-sub-.*',f'omega (arith, {LEVEL})'),
- ('walk-object-walk-heads-requires',call(LESS(LEVEL),on(R),f'object-heads-there {A} {EN}')),
- ('walk-object-returns',f'λ ν. object-heads-stopped {OB} {fact("enum-told")}'),
- ('walk-object-analyze-obj-members-requires',call(SAMELEVEL,f'(ready-heads {R} _ _ {H} (c@walk-heads .ensures) {HEADS})',f'object-members {A} {EN} {H} (c@walk-heads .ensures) {HEADS}')),
- ('walk-object-returns-2',f'λ ν. object-ended {OB} {HEADS} {LONG("walk-heads")} (c@analyze-obj-members .ensures)'),
+ ('on-object-add-.*',OM(OSIZE)),
+ ('on-object-sub-.*',f'omega (arith, {LEVEL})'),
+ ('on-object-on-heads-requires',call(LESS(LEVEL),on(R),f'object-heads-there {A} {EN}')),
+ ('on-object-returns',f'λ ν. object-heads-stopped {OB} {fact("enum-told")}'),
+ ('on-object-on-members-requires',call(SAMELEVEL,f'(ready-heads {R} _ _ {H} (c@on-heads .ensures) {HEADS})',f'object-members {A} {EN} {H} (c@on-heads .ensures) {HEADS}')),
+ ('on-object-returns-2',f'λ ν. object-ended {OB} {HEADS} {LONG("on-heads")} (c@on-members .ensures)'),
 ]
 OBJ='(c@args .object)'
 MLEVEL=f'(expr-level {S} {N} any-expression {OBJ} ({A} .there .read))'
@@ -134,56 +134,56 @@ MBN=f'(members-binds-there {R} {A} {EN})'
 MBEGUN=f'(c@begin-object .ensures .begun ({N} - 1) {MBN} _ _ _ {FIT})'
 EI='(c@in-object .ensures .same ∙ ap (λ (k : ℕ). walk.in-object k '+H+') (sym (locals-counted '+BUFS+' (c@args .st))))'
 ED='(c@in-object .ensures .depth)'
-MSTAGE=f'(members-stage {R} {A} {EN} _ {EI} {ED} {MBEGUN} {DONE} (c@walk-binds .ensures) {SPECS})'
+MSTAGE=f'(members-stage {R} {A} {EN} _ {EI} {ED} {MBEGUN} {DONE} (c@on-binds .ensures) {SPECS})'
 MB=f'{S} {N} {AT} {OBJ} {H} {EN} {MBEGUN}'
-MREST=f'{DONE} {DIAG("begin-object",1)} {EI} (c@walk-binds .ensures)'
-MREST2=f'{SPECS} {LONG("walk-binds")} {EB} {SETTLED} {SAME} {DEEP} (c@walk-fields .ensures)'
+MREST=f'{DONE} {DIAG("begin-object",1)} {EI} (c@on-binds .ensures)'
+MREST2=f'{SPECS} {LONG("on-binds")} {EB} {SETTLED} {SAME} {DEEP} (c@on-fields .ensures)'
 members=[
- ('analyze-obj-members-add-.*',OM(MSIZE)),
- ('analyze-obj-members-sub-.*',f'omega (arith, {MLEVEL})'),
- ('analyze-obj-members-begin-object-requires',f'(record {{ levels = {N} - 1; read = {MBN} }}, omega (arith, {MSIZE}), omega (arith, {R} .short), fitting {FIT})'),
- ('analyze-obj-members-returns',f'members-unbegun {MB} {fact("enum-told")}'),
- ('analyze-obj-members-walk-binds-requires',call(LESS(MLEVEL),on(f'(ready-object ({N} - 1) _ {OBJ} {AT} {EI} {ED} {R} {MBEGUN} {DONE})'),f'({MBN}, omega arith)')),
- ('analyze-obj-members-returns-2',f'members-binds-stopped {MB} {MREST} {fact("enum-told2")} (unkept (c@not-kept .ensures) {fact("enum-told2")})'),
- ('analyze-obj-members-settle-frame-requires',f'(let g = {MSTAGE} in settleable (g .framed .ready) (g .inside) (g .framed .before-there) (g .few))'),
- ('analyze-obj-members-deeper-requires',f'omega (arith, {R} .shallow, {ED})'),
- ('analyze-obj-members-walk-fields-requires',call(LESS(MLEVEL),f'ready-settled ({MSTAGE} .framed) {SETTLED} {MLEVEL} {DEEP} (c@deeper .ensures .depth)',f'{MSTAGE} .fields')),
- ('analyze-obj-members-returns-3',f'members-fields-stopped {MB} {MREST} {MREST2} {fact("enum-told3")}'),
- ('analyze-obj-members-is-static-requires',f'(record {{ levels = {N} - 1; read = object-heads-there ({A} .there) (c@number-at2 .ensures) }})'),
- ('analyze-obj-members-finish-object-requires',f'members-end-asks {MSTAGE} {SETTLED} _ {MLEVEL} {DEEP} (c@deeper .ensures .depth) (c@walk-fields .ensures) {W}'),
- ('analyze-obj-members-returns-4',f'members-ended {MB} {MREST} {MREST2} {W} {LONG("walk-fields")} refl (sym (outermost-so {HERE})) (c@number-at3 .ensures) (c@number-at2 .ensures) (static-told {A} (c@number-at2 .ensures) (c@is-static .ensures)) (c@finish-object .ensures (c@args .st .«dollar_used»))'),
+ ('on-members-add-.*',OM(MSIZE)),
+ ('on-members-sub-.*',f'omega (arith, {MLEVEL})'),
+ ('on-members-begin-object-requires',f'(record {{ levels = {N} - 1; read = {MBN} }}, omega (arith, {MSIZE}), omega (arith, {R} .short), fitting {FIT})'),
+ ('on-members-returns',f'members-unbegun {MB} {fact("enum-told")}'),
+ ('on-members-on-binds-requires',call(LESS(MLEVEL),on(f'(ready-object ({N} - 1) _ {OBJ} {AT} {EI} {ED} {R} {MBEGUN} {DONE})'),f'({MBN}, omega arith)')),
+ ('on-members-returns-2',f'members-binds-stopped {MB} {MREST} {fact("enum-told2")} (unkept (c@not-kept .ensures) {fact("enum-told2")})'),
+ ('on-members-settle-frame-requires',f'(let g = {MSTAGE} in settleable (g .framed .ready) (g .inside) (g .framed .before-there) (g .few))'),
+ ('on-members-deeper-requires',f'omega (arith, {R} .shallow, {ED})'),
+ ('on-members-on-fields-requires',call(LESS(MLEVEL),f'ready-settled ({MSTAGE} .framed) {SETTLED} {MLEVEL} {DEEP} (c@deeper .ensures .depth)',f'{MSTAGE} .fields')),
+ ('on-members-returns-3',f'members-fields-stopped {MB} {MREST} {MREST2} {fact("enum-told3")}'),
+ ('on-members-is-static-requires',f'(record {{ levels = {N} - 1; read = object-heads-there ({A} .there) (c@number-at2 .ensures) }})'),
+ ('on-members-finish-object-requires',f'members-end-asks {MSTAGE} {SETTLED} _ {MLEVEL} {DEEP} (c@deeper .ensures .depth) (c@on-fields .ensures) {W}'),
+ ('on-members-returns-4',f'members-ended {MB} {MREST} {MREST2} {W} {LONG("on-fields")} refl (sym (outermost-so {HERE})) (c@number-at3 .ensures) (c@number-at2 .ensures) (static-told {A} (c@number-at2 .ensures) (c@is-static .ensures)) (c@finish-object .ensures (c@args .st .«dollar_used»))'),
 ]
 # assertions and values of an object
-FLD=f'{S} {N} {OBJ} {AT} {H} {EN} (c@walk-assertions .ensures)'
+FLD=f'{S} {N} {OBJ} {AT} {H} {EN} (c@on-assertions .ensures)'
 fields=[
- ('walk-fields-add-.*',OM(f'{A} .fits')),
- ('walk-fields-walk-assertions-requires',call(SAMELEVEL,R,f'fields-assertions {A} {EN}')),
- ('walk-fields-returns',f'fields-stopped {FLD} {fact("enum-told")}'),
- ('walk-fields-walk-values-requires',call(SAMELEVEL,f'ready-assertions {R} {N} _ {H} (c@walk-assertions .ensures) {W}',f'fields-values {A} {EN} (c@number-at2 .ensures) {H} (c@walk-assertions .ensures) {W}')),
- ('walk-fields-returns-2',f'fields-ended {FLD} {W} {LONG("walk-assertions")} (c@number-at2 .ensures) (c@walk-values .ensures)'),
+ ('on-fields-add-.*',OM(f'{A} .fits')),
+ ('on-fields-on-assertions-requires',call(SAMELEVEL,R,f'fields-assertions {A} {EN}')),
+ ('on-fields-returns',f'fields-stopped {FLD} {fact("enum-told")}'),
+ ('on-fields-on-values-requires',call(SAMELEVEL,f'ready-assertions {R} {N} _ {H} (c@on-assertions .ensures) {W}',f'fields-values {A} {EN} (c@number-at2 .ensures) {H} (c@on-assertions .ensures) {W}')),
+ ('on-fields-returns-2',f'fields-ended {FLD} {W} {LONG("on-assertions")} (c@number-at2 .ensures) (c@on-values .ensures)'),
 ]
 AS=f'{S} {N} (c@args .n) {AT} {H}'
 ASR=f'{AS} {A} {LEFT} {OPENED}'
 assertions=[
- ('walk-assertions-returns',f'assertions-nothing {AS} {TAKEN} {FIT}'),
- ('walk-assertions-open-frame-requires',f'{R} .fit .frames-long'),
- ('walk-assertions-returns-2',f'assertions-unopened {ASR} {fact("enum-told")} (unopened (c@not-opened .ensures) {fact("enum-told")})'),
- ('walk-assertions-walk-items-requires',call(SAMELEVEL,f'(ready-opened {AT} false {R} {OPENED} {fact("opened")})',A)),
- ('walk-assertions-returns-3',f'assertions-stopped {ASR} {fact("opened")} {SAME} (c@walk-items .ensures) {fact("enum-told2")}'),
- ('walk-assertions-close-assertions-requires',f'{fitof("walk-items",W)} .frames-kept'),
- ('walk-assertions-returns-4',f'assertions-ended {ASR} {fact("opened")} {SAME} (c@walk-items .ensures) {W} {LONG("walk-items")} (c@close-assertions .ensures .walks _ _ _ _ {fitof("walk-items",W)})'),
+ ('on-assertions-returns',f'assertions-nothing {AS} {TAKEN} {FIT}'),
+ ('on-assertions-open-frame-requires',f'{R} .fit .frames-long'),
+ ('on-assertions-returns-2',f'assertions-unopened {ASR} {fact("enum-told")} (unopened (c@not-opened .ensures) {fact("enum-told")})'),
+ ('on-assertions-on-items-requires',call(SAMELEVEL,f'(ready-opened {AT} false {R} {OPENED} {fact("opened")})',A)),
+ ('on-assertions-returns-3',f'assertions-stopped {ASR} {fact("opened")} {SAME} (c@on-items .ensures) {fact("enum-told2")}'),
+ ('on-assertions-close-assertions-requires',f'{fitof("on-items",W)} .frames-kept'),
+ ('on-assertions-returns-4',f'assertions-ended {ASR} {fact("opened")} {SAME} (c@on-items .ensures) {W} {LONG("on-items")} (c@close-assertions .ensures .walks _ _ _ _ {fitof("on-items",W)})'),
 ]
 HD='(c@args .head)'
 VA=f'{S} {N} {HD} {AT} {A} {H} {OPENED}'
 VREADY=f'(ready-opened {AT} false {R} {OPENED} {fact("opened")})'
 values=[
- ('walk-value-open-frame-requires',f'{R} .fit .frames-long'),
- ('walk-value-returns',f'value-unopened {VA} {fact("enum-told")} (unopened (c@not-opened .ensures) {fact("enum-told")})'),
- ('walk-value-head-naming-requires',f'value-head-fits {S} {N} {HD} {AT} {A}'),
- ('walk-value-analyze-requires',call(SAMELEVEL,VREADY,f'value-there {S} {N} {HD} {AT} {A}')),
- ('walk-value-returns-2',f'value-stopped {VA} {fact("opened")} {SAME} (c@head-naming .ensures) (c@analyze .ensures) {fact("enum-told2")}'),
- ('walk-value-close-value-requires',f'{fitof("analyze",W)} .frames-kept'),
- ('walk-value-returns-3',f'value-ended {VA} {fact("opened")} {SAME} (c@head-naming .ensures) (c@analyze .ensures) {W} {LONG("analyze")} (c@close-value .ensures .walks _ _ _ _ {fitof("analyze",W)})'),
+ ('on-value-open-frame-requires',f'{R} .fit .frames-long'),
+ ('on-value-returns',f'value-unopened {VA} {fact("enum-told")} (unopened (c@not-opened .ensures) {fact("enum-told")})'),
+ ('on-value-head-naming-requires',f'value-head-fits {S} {N} {HD} {AT} {A}'),
+ ('on-value-analyze-requires',call(SAMELEVEL,VREADY,f'value-there {S} {N} {HD} {AT} {A}')),
+ ('on-value-returns-2',f'value-stopped {VA} {fact("opened")} {SAME} (c@head-naming .ensures) (c@analyze .ensures) {fact("enum-told2")}'),
+ ('on-value-close-value-requires',f'{fitof("analyze",W)} .frames-kept'),
+ ('on-value-returns-3',f'value-ended {VA} {fact("opened")} {SAME} (c@head-naming .ensures) (c@analyze .ensures) {W} {LONG("analyze")} (c@close-value .ensures .walks _ _ _ _ {fitof("analyze",W)})'),
 ]
 # loops
 BUF='(buffers out diagnostics locals frames captures references)'
@@ -209,26 +209,26 @@ def sloop(m,one,unroll,acc,extra):
      (f'{m}-returns-2',f'specs-end {U} {INV} (c@loop-test .left)')]
 FEWK=lambda short: f'omega (arith, {INV} .few-kept, {TEST}, {short}, {R} .short)'
 ADD_I=[(f'walk-{k}-add-i','omega (arith, c@loop-test .taken, c@fits .n)') for k in ['items','heads','binds','params','values']]
-loops=ADD_I+(loop('walk-items','walk-item','items-unroll',0)+loop('walk-heads','walk-head','heads-unroll',0)
- +sloop('walk-binds','walk-bind',f'binds-unroll {S} {N} (c@args .base) {H}',f'({A} .0)',lambda x:f'({x}, {FEWK(f"binds-short {S} {N} (c@args .n) {AT} ({A} .0)")}, {A} .1)')
- +sloop('walk-params','walk-param',f'params-unroll {S} {N} {H}',A,lambda x:f'({x}, {FEWK(f"params-short {S} {N} (c@args .n) {AT} {A}")})')
- +[('walk-values-μ-loop','n - i'),
-  ('walk-values-loop-holds',f'values-begin {A} {R}'),
-  ('walk-values-walk-value-requires',call(SAMELEVEL,f'({INV} .ready)',f'turn-value {INV} {TEST}')),
-  ('walk-values-returns',f'values-stops {INV} {TEST} (c@walk-value .ensures) {fact("w2")}'),
-  ('walk-values-after-head-requires',f'turn-head-fits {INV} {TEST}'),
-  ('walk-values-loop-again',f'values-turn {INV} {TEST} (c@walk-value .ensures) {fact("w")} (c@after-head .ensures) {LONGS("walk-value")}'),
-  ('walk-values-returns-2',f'values-end {INV} (c@loop-test .left)')])
+loops=ADD_I+(loop('on-items','on-item','items-unroll',0)+loop('on-heads','on-head','heads-unroll',0)
+ +sloop('on-binds','on-bind',f'binds-unroll {S} {N} (c@args .base) {H}',f'({A} .0)',lambda x:f'({x}, {FEWK(f"binds-short {S} {N} (c@args .n) {AT} ({A} .0)")}, {A} .1)')
+ +sloop('on-params','on-param',f'params-unroll {S} {N} {H}',A,lambda x:f'({x}, {FEWK(f"params-short {S} {N} (c@args .n) {AT} {A}")})')
+ +[('on-values-μ-loop','n - i'),
+  ('on-values-loop-holds',f'values-begin {A} {R}'),
+  ('on-values-on-value-requires',call(SAMELEVEL,f'({INV} .ready)',f'turn-value {INV} {TEST}')),
+  ('on-values-returns',f'values-stops {INV} {TEST} (c@on-value .ensures) {fact("w2")}'),
+  ('on-values-after-head-requires',f'turn-head-fits {INV} {TEST}'),
+  ('on-values-loop-again',f'values-turn {INV} {TEST} (c@on-value .ensures) {fact("w")} (c@after-head .ensures) {LONGS("on-value")}'),
+  ('on-values-returns-2',f'values-end {INV} (c@loop-test .left)')])
 # heads
 HDA=f'{SNA} {A} {H} {EN}'
 HSIZE=f'(head-fits {SNA} {A})'
 heads=[
- ('walk-head-add-.*',OM(HSIZE)),
- ('walk-head-emit-head-requires.*',HSIZE),
- ('walk-head-returns',f'head-alone {HDA} {TAKEN} (c@emit-head .ensures .walks {L} _ _ _ _ _ {FIT})'),
- ('walk-head-analyze-requires',call(SAMELEVEL,on(R),f'head-name {SNA} {A} (λ e. {LEFT} ({EN} ∙ e))')),
- ('walk-head-returns-2',f'head-stopped {HDA} {LEFT} (c@analyze .ensures) {fact("enum-told")}'),
- ('walk-head-returns-3',f'head-ended {HDA} {LEFT} (c@analyze .ensures) {W} {LONG("analyze")} (c@emit-head2 .ensures .walks {L} _ _ _ _ _ {fitof("analyze",W)})'),
+ ('on-head-add-.*',OM(HSIZE)),
+ ('on-head-emit-head-requires.*',HSIZE),
+ ('on-head-returns',f'head-alone {HDA} {TAKEN} (c@emit-head .ensures .walks {L} _ _ _ _ _ {FIT})'),
+ ('on-head-analyze-requires',call(SAMELEVEL,on(R),f'head-name {SNA} {A} (λ e. {LEFT} ({EN} ∙ e))')),
+ ('on-head-returns-2',f'head-stopped {HDA} {LEFT} (c@analyze .ensures) {fact("enum-told")}'),
+ ('on-head-returns-3',f'head-ended {HDA} {LEFT} (c@analyze .ensures) {W} {LONG("analyze")} (c@emit-head2 .ensures .walks {L} _ _ _ _ _ {fitof("analyze",W)})'),
 ]
 # binds and parameters
 OV=f'(c@open-value .ensures .opened _ _ _ _ _ {FIT})'
@@ -239,55 +239,55 @@ def closing(fit,kept,size,base):
 BA=f'{S} {N} {AT} (c@args .base) (c@args .kept) ({A} .0) {H} {OV}'
 BSIZE=f'(bind-fits {SNA} ({A} .0))'
 binds=[
- ('walk-bind-open-value-requires',f'{R} .fit .frames-long'),
- ('walk-bind-returns',f'bind-unopened {BA} {fact("enum-told")} (valueless (c@no-value .ensures) {fact("enum-told")})'),
- ('walk-bind-add-.*',OM(BSIZE)),
- ('walk-bind-bind-naming-requires',BSIZE),
- ('walk-bind-analyze-requires',call(SAMELEVEL,on(VR),f'bind-value {SNA} ({A} .0)')),
- ('walk-bind-returns-2',f'bind-stopped {BA} {fact("opened")} {SAME} (c@bind-naming .ensures) (c@analyze .ensures) {fact("enum-told2")} (specless (c@no-spec .ensures) {fact("enum-told2")})'),
- ('walk-bind-close-spec-requires',closing(fitof('analyze',W),f'omega (arith, {A} .1, {A} .2)',f'longer-value {S} {N} _ {AT} _ {H} {FIT} {OV} {fact("opened")} (c@analyze .ensures) {W}','')),
- ('walk-bind-returns-3',f'bind-ended {BA} {fact("opened")} {SAME} (c@bind-naming .ensures) (c@analyze .ensures) {W} {LONG("analyze")} (written-counted _ _ {FIT}) refl refl refl (c@close-spec .ensures .walks _ {fitof("analyze",W)})'),
+ ('on-bind-open-value-requires',f'{R} .fit .frames-long'),
+ ('on-bind-returns',f'bind-unopened {BA} {fact("enum-told")} (valueless (c@no-value .ensures) {fact("enum-told")})'),
+ ('on-bind-add-.*',OM(BSIZE)),
+ ('on-bind-bind-naming-requires',BSIZE),
+ ('on-bind-analyze-requires',call(SAMELEVEL,on(VR),f'bind-value {SNA} ({A} .0)')),
+ ('on-bind-returns-2',f'bind-stopped {BA} {fact("opened")} {SAME} (c@bind-naming .ensures) (c@analyze .ensures) {fact("enum-told2")} (specless (c@no-spec .ensures) {fact("enum-told2")})'),
+ ('on-bind-close-spec-requires',closing(fitof('analyze',W),f'omega (arith, {A} .1, {A} .2)',f'longer-value {S} {N} _ {AT} _ {H} {FIT} {OV} {fact("opened")} (c@analyze .ensures) {W}','')),
+ ('on-bind-returns-3',f'bind-ended {BA} {fact("opened")} {SAME} (c@bind-naming .ensures) (c@analyze .ensures) {W} {LONG("analyze")} (written-counted _ _ {FIT}) refl refl refl (c@close-spec .ensures .walks _ {fitof("analyze",W)})'),
 ]
 EN2='(c@number-at2 .ensures)'
 PA=f'{S} {N} {AT} (c@args .kept) ({A} .0) {H} {EN2} {EN}'
 PSIZE=f'(param-fits {SNA} ({A} .0))'
 params=[
- ('walk-param-add-.*',OM(PSIZE)),
- ('walk-param-record-spec-init-requires',f'(let f = {FIT} in ((omega (arith, f .locals-long, f .few-locals), omega (arith, f .frames-long, f .few-frames), f .references-long, f .few-references, f .first-there), omega (arith, {A} .1), omega arith))'),
- ('walk-param-returns',f'param-alone {PA} {TAKEN} (stack-depending _ (c@args .st) _ (c@no-dependence .ensures)) (written-counted _ _ {FIT}) refl refl refl (c@record-spec-init .ensures .walks _ _ (fit-depending _ {FIT}))'),
- ('walk-param-open-value-requires',f'{R} .fit .frames-long'),
- ('walk-param-returns-2',f'param-unopened {PA} {LEFT} {OV} {fact("enum-told")} (valueless (c@no-value .ensures) {fact("enum-told")})'),
- ('walk-param-analyze-requires',call(SAMELEVEL,on(VR),f'param-default {SNA} ({A} .0) (λ e. {LEFT} ({EN2} ∙ e))')),
- ('walk-param-returns-3',f'param-stopped {PA} {LEFT} {OV} {fact("opened")} {SAME} (c@analyze .ensures) {fact("enum-told2")} (specless (c@no-spec .ensures) {fact("enum-told2")})'),
- ('walk-param-close-spec-requires',closing(fitof('analyze',W),f'omega (arith, {A} .1)',f'longer-value {S} {N} _ {AT} _ {H} {FIT} {OV} {fact("opened")} (c@analyze .ensures) {W}','')),
- ('walk-param-returns-4',f'param-ended {PA} {LEFT} {OV} {fact("opened")} {SAME} (c@analyze .ensures) {W} {LONG("analyze")} (written-counted _ _ {FIT}) refl refl refl (c@close-spec .ensures .walks _ {fitof("analyze",W)})'),
+ ('on-param-add-.*',OM(PSIZE)),
+ ('on-param-record-spec-init-requires',f'(let f = {FIT} in ((omega (arith, f .locals-long, f .few-locals), omega (arith, f .frames-long, f .few-frames), f .references-long, f .few-references, f .first-there), omega (arith, {A} .1), omega arith))'),
+ ('on-param-returns',f'param-alone {PA} {TAKEN} (stack-depending _ (c@args .st) _ (c@no-dependence .ensures)) (written-counted _ _ {FIT}) refl refl refl (c@record-spec-init .ensures .walks _ _ (fit-depending _ {FIT}))'),
+ ('on-param-open-value-requires',f'{R} .fit .frames-long'),
+ ('on-param-returns-2',f'param-unopened {PA} {LEFT} {OV} {fact("enum-told")} (valueless (c@no-value .ensures) {fact("enum-told")})'),
+ ('on-param-analyze-requires',call(SAMELEVEL,on(VR),f'param-default {SNA} ({A} .0) (λ e. {LEFT} ({EN2} ∙ e))')),
+ ('on-param-returns-3',f'param-stopped {PA} {LEFT} {OV} {fact("opened")} {SAME} (c@analyze .ensures) {fact("enum-told2")} (specless (c@no-spec .ensures) {fact("enum-told2")})'),
+ ('on-param-close-spec-requires',closing(fitof('analyze',W),f'omega (arith, {A} .1)',f'longer-value {S} {N} _ {AT} _ {H} {FIT} {OV} {fact("opened")} (c@analyze .ensures) {W}','')),
+ ('on-param-returns-4',f'param-ended {PA} {LEFT} {OV} {fact("opened")} {SAME} (c@analyze .ensures) {W} {LONG("analyze")} (written-counted _ _ {FIT}) refl refl refl (c@close-spec .ensures .walks _ {fitof("analyze",W)})'),
 ]
 # items
 MK='(c@mark-at .ensures .0)'
 def marked(k): return f'(sym {MK} ∙ (c@match .{k}))'
 ITEM=f'{S} {N} {AT} {A} (sym {MK}) {H}'
 items=[
- ('walk-item-walk-held-requires',call(SAMELEVEL,R,f'record {{ read = {A}; marked = sym {MK}; holder = an-argument (c@match .keys1) }}')),
- ('walk-item-walk-held-requires-2',call(SAMELEVEL,R,f'record {{ read = {A}; marked = sym {MK}; holder = a-part (c@match .keys2) }}')),
- ('walk-item-walk-held-requires-3',call(SAMELEVEL,R,f'record {{ read = {A}; marked = sym {MK}; holder = an-assertion (c@match .keys3) }}')),
- ('walk-item-analyze-requires',call(SAMELEVEL,R,f'not-held {S} (limits-of (c@args .limits) [] []) {N} {AT} {A} _ (sym {MK}) (λ e. c@match .rest .0 .0 .1 e) (λ e. c@match .rest .0 .1 e) (λ e. c@match .rest .1 e)')),
- ('walk-item-returns','c@walk-held .ensures'),('walk-item-returns-2','c@walk-held2 .ensures'),('walk-item-returns-3','c@walk-held3 .ensures'),
- ('walk-item-returns-4',f'item-plain {ITEM} (λ e. c@match .rest .0 .0 .1 e) (λ e. c@match .rest .0 .1 e) (λ e. c@match .rest .1 e) (c@analyze .ensures)'),
+ ('on-item-on-held-requires',call(SAMELEVEL,R,f'record {{ read = {A}; marked = sym {MK}; holder = an-argument (c@match .keys1) }}')),
+ ('on-item-on-held-requires-2',call(SAMELEVEL,R,f'record {{ read = {A}; marked = sym {MK}; holder = a-part (c@match .keys2) }}')),
+ ('on-item-on-held-requires-3',call(SAMELEVEL,R,f'record {{ read = {A}; marked = sym {MK}; holder = an-assertion (c@match .keys3) }}')),
+ ('on-item-analyze-requires',call(SAMELEVEL,R,f'not-held {S} (limits-of (c@args .limits) [] []) {N} {AT} {A} _ (sym {MK}) (λ e. c@match .rest .0 .0 .1 e) (λ e. c@match .rest .0 .1 e) (λ e. c@match .rest .1 e)')),
+ ('on-item-returns','c@on-held .ensures'),('on-item-returns-2','c@on-held2 .ensures'),('on-item-returns-3','c@on-held3 .ensures'),
+ ('on-item-returns-4',f'item-plain {ITEM} (λ e. c@match .rest .0 .0 .1 e) (λ e. c@match .rest .0 .1 e) (λ e. c@match .rest .1 e) (c@analyze .ensures)'),
 ]
 HL=f'{S} {N} {AT} ({A} .read) ({A} .marked) {H} ({A} .holder) (children-here {S} (c@args .mark) {AT} (c@children .ensures))'
 HG=f'{S} (limits-of (c@args .limits) [] []) {N} {AT} ({A} .read) (c@args .mark) ({A} .marked) (the-holder ({A} .holder))'
 HFITS=f'(held-size {HG})'
 HCOPY=f'(omega (arith, {HFITS}, held-sized {HG}), held-marked {HG})'
 held=[
- ('walk-held-(sub-children|part-children-start|part-children-end)',f'omega (arith, {HFITS})'),
- ('walk-held-add-.*',OM(HFITS)),
- ('walk-held-analyze-requires',call(SAMELEVEL,on(R),f'held-first {HG}')),
- ('walk-held-returns',f'held-first-stopped {HL} (c@analyze .ensures) {fact("enum-told")}'),
- ('walk-held-copy-record-requires.*',HCOPY),
- ('walk-held-returns-2',f'held-one-ended {HL} (c@analyze .ensures) {TAKEN} {fact("first")} {LONG("analyze")} (c@copy-record .ensures .walks {L} _ _ _ _ _ {fitof("analyze",fact("first"))})'),
- ('walk-held-analyze-requires-2',call(SAMELEVEL,f'(ready-expr {on(R)} {N} unnamed {H} (c@analyze .ensures) {fact("first")})',f'held-second-there {A} (children-here {S} (c@args .mark) {AT} (c@children .ensures)) {LEFT} {H} (c@analyze .ensures) {fact("first")}')),
- ('walk-held-returns-3',f'held-second-stopped {HL} (c@analyze .ensures) {LEFT} {fact("first")} {LONG("analyze")} (c@analyze2 .ensures) {fact("enum-told2")}'),
- ('walk-held-returns-4',f'held-two-ended {HL} (c@analyze .ensures) {LEFT} {fact("first")} {LONG("analyze")} (c@analyze2 .ensures) {fact("second")} {LONG("analyze2")} (c@copy-record2 .ensures .walks {L} _ _ _ _ _ {fitof("analyze2",fact("second"))})'),
+ ('on-held-(sub-children|part-children-start|part-children-end)',f'omega (arith, {HFITS})'),
+ ('on-held-add-.*',OM(HFITS)),
+ ('on-held-analyze-requires',call(SAMELEVEL,on(R),f'held-first {HG}')),
+ ('on-held-returns',f'held-first-stopped {HL} (c@analyze .ensures) {fact("enum-told")}'),
+ ('on-held-copy-record-requires.*',HCOPY),
+ ('on-held-returns-2',f'held-one-ended {HL} (c@analyze .ensures) {TAKEN} {fact("first")} {LONG("analyze")} (c@copy-record .ensures .walks {L} _ _ _ _ _ {fitof("analyze",fact("first"))})'),
+ ('on-held-analyze-requires-2',call(SAMELEVEL,f'(ready-expr {on(R)} {N} unnamed {H} (c@analyze .ensures) {fact("first")})',f'held-second-there {A} (children-here {S} (c@args .mark) {AT} (c@children .ensures)) {LEFT} {H} (c@analyze .ensures) {fact("first")}')),
+ ('on-held-returns-3',f'held-second-stopped {HL} (c@analyze .ensures) {LEFT} {fact("first")} {LONG("analyze")} (c@analyze2 .ensures) {fact("enum-told2")}'),
+ ('on-held-returns-4',f'held-two-ended {HL} (c@analyze .ensures) {LEFT} {fact("first")} {LONG("analyze")} (c@analyze2 .ensures) {fact("second")} {LONG("analyze2")} (c@copy-record2 .ensures .walks {L} _ _ _ _ _ {fitof("analyze2",fact("second"))})'),
 ]
 # expressions
 EX=f'{SNA} {A} (naming-of (c@args .naming)) {H}'
@@ -298,31 +298,31 @@ exprs=[
  ('analyze-add-copy-record',OM(f'constant-size {SNA} {A} {marked("keys2")}')),
  ('analyze-copy-record-requires',('CONST',f'(constant-size {SNA} {A} {marked("keys2")}, {marked("keys2")})')),
  ('analyze-analyze-variable-requires',f'((variable-size {SNA} {A} {marked("keys3")}, omega (arith, {FIT} .locals-long, {FIT} .few-locals)), ({FIT} .frames-kept, {FIT} .captures-long))'),
- ('analyze-walk-array-requires',call(SAMELEVEL,R,there('keys4'))),
+ ('analyze-on-array-requires',call(SAMELEVEL,R,there('keys4'))),
  ('analyze-analyze-import-requires',f'import-size {SNA} {A} {marked("keys5")}'),
- ('analyze-walk-local-requires',call(SAMELEVEL,R,there('keys6'))),
- ('analyze-analyze-function-requires',call(SAMELEVEL,R,there('keys7'))),
- ('analyze-walk-object-requires',call(SAMELEVEL,R,there('keys8'))),
- ('analyze-walk-plain-requires',call(SAMELEVEL,R,f'record {{ read = {A}; marked = sym {MK}; not-identity = (λ e. c@match .rest .0 .0 .0 .0 .0 .0 .0 .1 e); not-constant = (λ e. c@match .rest .0 .0 .0 .0 .0 .0 .1 e); not-variable = (λ e. c@match .rest .0 .0 .0 .0 .0 .1 e); not-array = (λ e. c@match .rest .0 .0 .0 .0 .1 e); not-import = (λ e. c@match .rest .0 .0 .0 .1 e); not-local = (λ e. c@match .rest .0 .0 .1 e); not-function = (λ e. c@match .rest .0 .1 e); not-object = (λ e. c@match .rest .1 e) }}')),
+ ('analyze-on-local-requires',call(SAMELEVEL,R,there('keys6'))),
+ ('analyze-on-function-requires',call(SAMELEVEL,R,there('keys7'))),
+ ('analyze-on-object-requires',call(SAMELEVEL,R,there('keys8'))),
+ ('analyze-on-plain-requires',call(SAMELEVEL,R,f'record {{ read = {A}; marked = sym {MK}; not-identity = (λ e. c@match .rest .0 .0 .0 .0 .0 .0 .0 .1 e); not-constant = (λ e. c@match .rest .0 .0 .0 .0 .0 .0 .1 e); not-variable = (λ e. c@match .rest .0 .0 .0 .0 .0 .1 e); not-array = (λ e. c@match .rest .0 .0 .0 .0 .1 e); not-import = (λ e. c@match .rest .0 .0 .0 .1 e); not-local = (λ e. c@match .rest .0 .0 .1 e); not-function = (λ e. c@match .rest .0 .1 e); not-object = (λ e. c@match .rest .1 e) }}')),
  ('analyze-returns',f'identity-returns {EX} {marked("keys1")} (c@analyze-identity .ensures .walks _ {FIT})'),
  ('analyze-returns-2',('CONST',f'constant-returns {EX} {marked("keys2")} (c@copy-record .ensures .walks {L} _ _ _ _ _ {FIT})')),
  ('analyze-returns-3',f'variable-returns {EX} {marked("keys3")} (c@analyze-variable .ensures .walks _ {FIT})'),
- ('analyze-returns-4','c@walk-array .ensures _'),
+ ('analyze-returns-4','c@on-array .ensures _'),
  ('analyze-returns-5',f'import-returns {EX} {marked("keys5")} (c@analyze-import .ensures .walks {L} _ _ _ _ {FIT})'),
- ('analyze-returns-6','c@walk-local .ensures _'),
- ('analyze-returns-7','c@analyze-function .ensures'),
- ('analyze-returns-8','c@walk-object .ensures _'),
- ('analyze-returns-9','c@walk-plain .ensures _'),
+ ('analyze-returns-6','c@on-local .ensures _'),
+ ('analyze-returns-7','c@on-function .ensures'),
+ ('analyze-returns-8','c@on-object .ensures _'),
+ ('analyze-returns-9','c@on-plain .ensures _'),
 ]
 
 LISTS=dict(items=('Accepted (items-at tree nest n p)','run-items tree L nest n p (place-of here) σ'),heads=('Accepted (heads-at tree nest n p)','run-heads tree L nest n p (place-of here) σ'))
 B0L='(buffers out₀ diagnostics₀ locals₀ frames₀ captures₀ references₀)'; BL='(buffers out diagnostics locals frames captures references)'
 invs=[(f'walk-{k}-Inv-loop',f'Turn (λ n p. {a}) (λ n p L σ. {r}) limits tree nest here {B0L} state₀ at n {BL} state p i') for k,(a,r) in LISTS.items()]
-invs+=[('walk-binds-Inv-loop',f'Turn-specs (λ n p. Accepted (binds-at tree nest n p)) (λ n p kept L σ. run-binds tree L nest n p base kept (place-of here) σ) limits tree nest here {B0L} state₀ at n {BL} state p kept i'),
- ('walk-params-Inv-loop',f'Turn-specs (λ n p. Accepted (params-at tree nest n p)) (λ n p kept L σ. run-params tree L nest n p kept (place-of here) σ) limits tree nest here {B0L} state₀ at n {BL} state p kept i'),
- ('walk-values-Inv-loop',f'Turn-values limits tree nest here {B0L} state₀ heads at n {BL} state head p i')]
-CODES=['analyze-analyze-identity-requires','analyze-analyze-variable-requires','analyze-analyze-import-requires','analyze-walk-(array|local|object|plain)-requires','analyze-analyze-function-requires','analyze-add-copy-record','analyze-returns.*','walk-item-.*']
-UNFOLD={r'walk-local-(returns.*|walk-binds-requires|settle-frame-requires|analyze-requires-2|finish-local-requires)':'place-of naming-of',r'analyze-function-(returns.*|walk-params-requires|settle-frame-requires|analyze-requires|finish-function-requires)':'place-of naming-of',r'walk-local-analyze-requires':'naming-of',r'walk-held-.*':'naming-of',r'walk-item-returns-4':'naming-of code',r'walk-head-.*':'naming-of',r'walk-param-.*':'naming-of',r'walk-value-.*':'naming-of',r'walk-bind-.*':'naming-of'}
+invs+=[('on-binds-Inv-loop',f'Turn-specs (λ n p. Accepted (binds-at tree nest n p)) (λ n p kept L σ. run-binds tree L nest n p base kept (place-of here) σ) limits tree nest here {B0L} state₀ at n {BL} state p kept i'),
+ ('on-params-Inv-loop',f'Turn-specs (λ n p. Accepted (params-at tree nest n p)) (λ n p kept L σ. run-params tree L nest n p kept (place-of here) σ) limits tree nest here {B0L} state₀ at n {BL} state p kept i'),
+ ('on-values-Inv-loop',f'Turn-values limits tree nest here {B0L} state₀ heads at n {BL} state head p i')]
+CODES=['analyze-analyze-identity-requires','analyze-analyze-variable-requires','analyze-analyze-import-requires','analyze-walk-(array|local|object|plain)-requires','analyze-on-function-requires','analyze-add-copy-record','analyze-returns.*','on-item-.*']
+UNFOLD={r'on-local-(returns.*|on-binds-requires|settle-frame-requires|analyze-requires-2|finish-local-requires)':'place-of naming-of',r'on-function-(returns.*|on-params-requires|settle-frame-requires|analyze-requires|finish-function-requires)':'place-of naming-of',r'on-local-analyze-requires':'naming-of',r'on-held-.*':'naming-of',r'on-item-returns-4':'naming-of code',r'on-head-.*':'naming-of',r'on-param-.*':'naming-of',r'on-value-.*':'naming-of',r'on-bind-.*':'naming-of'}
 def unfolded(rs):
     out=[]
     for pat,txt in rs:
@@ -331,14 +331,14 @@ def unfolded(rs):
                 if re.fullmatch(u,pat.replace('.*','')) : txt=(n,txt); break
         out.append((pat,txt))
     return out
-UNFOLD_MORE={r'analyze-obj-members-returns-4':'stack',r'walk-bind-returns-3':'naming-of stack spec-mark spec-numbers',r'walk-param-returns(-4)?':'naming-of stack spec-mark spec-numbers'}
+UNFOLD_MORE={r'on-members-returns-4':'stack',r'on-bind-returns-3':'naming-of stack spec-mark spec-numbers',r'on-param-returns(-4)?':'naming-of stack spec-mark spec-numbers'}
 UNFOLD={**UNFOLD_MORE,**UNFOLD}
 def coded(rs):
     out=[]
     for r in rs:
         pat,txt=r
         if isinstance(txt,tuple) and txt[0]=='CONST': out.append((pat,('code mark-of find-mark marks choose size-of numbers-of widths width fields',txt[1])))
-        elif isinstance(txt,str) and 'c@match' in txt: out.append((pat,('code'+(' naming-of' if pat=='walk-item-returns-4' else ''),txt)))
+        elif isinstance(txt,str) and 'c@match' in txt: out.append((pat,('code'+(' naming-of' if pat=='on-item-returns-4' else ''),txt)))
         else: out.append(r)
     return out
 SLICES={'begin-local':['tree','diagnostics','locals','frames'],'begin-function':['tree','diagnostics','locals','frames'],'begin-object':['tree','diagnostics','locals','frames'],'open-frame':['frames'],'open-value':['frames'],'settle-frame':['locals'],
@@ -398,7 +398,7 @@ J+'Turns.{Turn, turn-begin, turn-end, turn-first, turn-stop, turn-next, Turn-spe
 J+'Returns.{told, the-holder, identity-returns, constant-returns, variable-returns, import-returns, array-constant, array-unopened, array-stopped, array-ended, plain-stopped, plain-ended, local-only, local-unbegun, local-binds-stopped, local-body-stopped, local-ended}',
 J+'Returns.{function-unbegun, function-params-stopped, function-body-stopped, function-ended, object-heads-stopped, object-ended, members-unbegun, members-binds-stopped, members-fields-stopped, members-ended, fields-stopped, fields-ended, assertions-nothing, assertions-unopened, assertions-stopped, assertions-ended}',
 J+'Returns.{value-unopened, value-stopped, value-ended, head-alone, head-stopped, head-ended, bind-unopened, bind-stopped, bind-ended, param-alone, param-unopened, param-stopped, param-ended, item-plain, held-first-stopped, held-one-ended, held-second-stopped, held-two-ended}']
-about={'Analyze':'an expression','AnalyzeFunction':'a function','AnalyzeObjMembers':"an object's members",'WalkArray':'an array','WalkAssertions':"an object's assertions",'WalkBind':'a bind','WalkBinds':'binds','WalkFields':"an object's assertions and values",'WalkHead':"a field's head",'WalkHeads':'heads','WalkHeld':'a record that holds expressions','WalkItem':'an item','WalkItems':'items','WalkLocal':'a local','WalkObject':'an object','WalkParam':'a parameter','WalkParams':'parameters','WalkPlain':'a record that opens no frame','WalkValue':"a field's value",'WalkValues':'values'}
+about={'Analyze':'an expression','OnFunction':'a function','OnMembers':"an object's members",'OnArray':'an array','OnAssertions':"an object's assertions",'OnBind':'a bind','OnBinds':'binds','OnFields':"an object's assertions and values",'OnHead':"a field's head",'OnHeads':'heads','OnHeld':'a record that holds expressions','OnItem':'an item','OnItems':'items','OnLocal':'a local','OnObject':'an object','OnParam':'a parameter','OnParams':'parameters','OnPlain':'a record that opens no frame','OnValue':"a field's value",'OnValues':'values'}
 comments={C+'/'+m:[f'-- The walk over {about[m]}: each need of its code, answered from the laws of joins. Assumes nothing.'] for m in about}
 uses={C+'/'+m:common for m in about}
 uses[C+'/Measures']=['use Prim.Native.Nat.{ℕ, _+_, _*_, _<_}']

@@ -164,7 +164,7 @@ pub fn analyze(
             at,
             here,
         ),
-        AR => walk_array(
+        AR => on_array(
             tree,
             out,
             diagnostics,
@@ -179,7 +179,7 @@ pub fn analyze(
             here,
         ),
         IM => analyze_import(tree, out, diagnostics, st, at),
-        LO => walk_local(
+        LO => on_local(
             tree,
             out,
             diagnostics,
@@ -193,7 +193,7 @@ pub fn analyze(
             nest,
             here,
         ),
-        FN => analyze_function(
+        FN => on_function(
             tree,
             out,
             diagnostics,
@@ -208,7 +208,7 @@ pub fn analyze(
             naming,
             here,
         ),
-        OB => walk_object(
+        OB => on_object(
             tree,
             out,
             diagnostics,
@@ -222,7 +222,7 @@ pub fn analyze(
             nest,
             here,
         ),
-        _ => walk_plain(
+        _ => on_plain(
             tree,
             out,
             diagnostics,
@@ -241,7 +241,7 @@ pub fn analyze(
 }
 
 // A record with this mark that opens no frame: what stands below it, and then itself.
-fn walk_plain(
+fn on_plain(
     tree: &[u8],
     out: &mut [u8],
     diagnostics: &mut [u8],
@@ -262,7 +262,7 @@ fn walk_plain(
 {
     let n = children(&tree[at..], mark);
     let below = at + size_of(mark);
-    let w = walk_items(
+    let w = on_items(
         tree,
         out,
         diagnostics,
@@ -284,7 +284,7 @@ fn walk_plain(
 }
 
 // `AR`: constants in one record, or items in a using frame.
-fn walk_array(
+fn on_array(
     tree: &[u8],
     out: &mut [u8],
     diagnostics: &mut [u8],
@@ -310,7 +310,7 @@ fn walk_array(
     let Step::Ok(inside) = opened else {
         return not_opened(opened);
     };
-    let w = walk_items(
+    let w = on_items(
         tree,
         out,
         diagnostics,
@@ -332,7 +332,7 @@ fn walk_array(
 }
 
 // `LO`: binds and a body; with no binds it is its body.
-fn walk_local(
+fn on_local(
     tree: &[u8],
     out: &mut [u8],
     diagnostics: &mut [u8],
@@ -383,7 +383,7 @@ fn walk_local(
     let Walked::To(inside, _) = begun else {
         return begun;
     };
-    let specs = walk_binds(
+    let specs = on_binds(
         tree,
         out,
         diagnostics,
@@ -438,7 +438,7 @@ fn walk_local(
 }
 
 // `FN`: parameters and a body.
-fn analyze_function(
+fn on_function(
     tree: &[u8],
     out: &mut [u8],
     diagnostics: &mut [u8],
@@ -473,7 +473,7 @@ fn analyze_function(
     let Walked::To(inside, _) = begun else {
         return begun;
     };
-    let specs = walk_params(
+    let specs = on_params(
         tree,
         out,
         diagnostics,
@@ -536,7 +536,7 @@ fn analyze_function(
 }
 
 // `OB`: heads in the scope outside, then binds, assertions and values inside.
-fn walk_object(
+fn on_object(
     tree: &[u8],
     out: &mut [u8],
     diagnostics: &mut [u8],
@@ -555,7 +555,7 @@ fn walk_object(
     ensures { λ r. ⌜ ((ν : walk.Naming) → Walks r limits (buffers (now (out .entry)) (now (diagnostics .entry)) (now (locals .entry)) (now (frames .entry)) (now (captures .entry)) (now (references .entry))) (buffers (now (out .exit)) (now (diagnostics .exit)) (now (locals .exit)) (now (frames .exit)) (now (captures .exit)) (now (references .exit))) st (λ limits σ. run-expr (now (tree .entry)) limits nest at ν (place-of here) σ)) ⌝ }
 {
     let fields = number_at(tree, at + 10);
-    let heads = walk_heads(
+    let heads = on_heads(
         tree,
         out,
         diagnostics,
@@ -573,7 +573,7 @@ fn walk_object(
     let Walked::To(outside, binds) = heads else {
         return heads;
     };
-    analyze_obj_members(
+    on_members(
         tree,
         out,
         diagnostics,
@@ -591,7 +591,7 @@ fn walk_object(
 }
 
 // What stands behind the heads of the object at `object`: its binds, which stand here, assertions and values.
-fn analyze_obj_members(
+fn on_members(
     tree: &[u8],
     out: &mut [u8],
     diagnostics: &mut [u8],
@@ -628,7 +628,7 @@ fn analyze_obj_members(
     let Walked::To(opened, _) = begun else {
         return begun;
     };
-    let specs = walk_binds(
+    let specs = on_binds(
         tree,
         out,
         diagnostics,
@@ -648,7 +648,7 @@ fn analyze_obj_members(
         return not_kept(specs);
     };
     let settled = settle_frame(locals, references, known, kept, before);
-    let w = walk_fields(
+    let w = on_fields(
         tree,
         out,
         diagnostics,
@@ -693,7 +693,7 @@ fn analyze_obj_members(
 }
 
 // The assertions and the values of the object at `object`.
-fn walk_fields(
+fn on_fields(
     tree: &[u8],
     out: &mut [u8],
     diagnostics: &mut [u8],
@@ -712,7 +712,7 @@ fn walk_fields(
     requires { ⌜ Fields-there (now tree) nest object at ⌝ }
     ensures { λ r. ⌜ (Walks r limits (buffers (now (out .entry)) (now (diagnostics .entry)) (now (locals .entry)) (now (frames .entry)) (now (captures .entry)) (now (references .entry))) (buffers (now (out .exit)) (now (diagnostics .exit)) (now (locals .exit)) (now (frames .exit)) (now (captures .exit)) (now (references .exit))) st (λ limits σ. fields-steps (now (tree .entry)) limits nest object at (place-of here) σ)) ⌝ }
 {
-    let w = walk_assertions(
+    let w = on_assertions(
         tree,
         out,
         diagnostics,
@@ -730,7 +730,7 @@ fn walk_fields(
     let Walked::To(after, values) = w else {
         return w;
     };
-    walk_values(
+    on_values(
         tree,
         out,
         diagnostics,
@@ -749,7 +749,7 @@ fn walk_fields(
 }
 
 // An expression, or an `NA`, `PT` or `AT` with the expressions that it holds.
-fn walk_item(
+fn on_item(
     tree: &[u8],
     out: &mut [u8],
     diagnostics: &mut [u8],
@@ -769,7 +769,7 @@ fn walk_item(
 {
     let mark = mark_at(tree, at);
     match mark {
-        NA => walk_held(
+        NA => on_held(
             tree,
             out,
             diagnostics,
@@ -784,7 +784,7 @@ fn walk_item(
             mark,
             here,
         ),
-        PT => walk_held(
+        PT => on_held(
             tree,
             out,
             diagnostics,
@@ -799,7 +799,7 @@ fn walk_item(
             mark,
             here,
         ),
-        AT => walk_held(
+        AT => on_held(
             tree,
             out,
             diagnostics,
@@ -833,7 +833,7 @@ fn walk_item(
 }
 
 // `NA`, `PT` or `AT`: one expression, or two for an assertion with a message.
-fn walk_held(
+fn on_held(
     tree: &[u8],
     out: &mut [u8],
     diagnostics: &mut [u8],
@@ -896,7 +896,7 @@ fn walk_held(
 }
 
 // n of them.
-fn walk_items(
+fn on_items(
     tree: &[u8],
     out: &mut [u8],
     diagnostics: &mut [u8],
@@ -919,7 +919,7 @@ fn walk_items(
     let mut p = at;
     let mut i: usize = 0;
     while i < n {
-        let w = walk_item(
+        let w = on_item(
             tree,
             out,
             diagnostics,
@@ -948,7 +948,7 @@ fn walk_items(
 }
 
 // An object's assertions, in one using frame if there are any.
-fn walk_assertions(
+fn on_assertions(
     tree: &[u8],
     out: &mut [u8],
     diagnostics: &mut [u8],
@@ -974,7 +974,7 @@ fn walk_assertions(
     let Step::Ok(inside) = opened else {
         return not_opened(opened);
     };
-    let w = walk_items(
+    let w = on_items(
         tree,
         out,
         diagnostics,
@@ -996,7 +996,7 @@ fn walk_assertions(
 }
 
 // A field's head, with its name if that is computed.
-fn walk_head(
+fn on_head(
     tree: &[u8],
     out: &mut [u8],
     diagnostics: &mut [u8],
@@ -1039,7 +1039,7 @@ fn walk_head(
 }
 
 // n heads.
-fn walk_heads(
+fn on_heads(
     tree: &[u8],
     out: &mut [u8],
     diagnostics: &mut [u8],
@@ -1062,7 +1062,7 @@ fn walk_heads(
     let mut p = at;
     let mut i: u32 = 0;
     while i < n {
-        let w = walk_head(
+        let w = on_head(
             tree,
             out,
             diagnostics,
@@ -1091,7 +1091,7 @@ fn walk_heads(
 }
 
 // The value of the field whose head stands at `head`, in a using frame.
-fn walk_value(
+fn on_value(
     tree: &[u8],
     out: &mut [u8],
     diagnostics: &mut [u8],
@@ -1136,7 +1136,7 @@ fn walk_value(
 }
 
 // The values of n fields, whose heads stand from `heads` on.
-fn walk_values(
+fn on_values(
     tree: &[u8],
     out: &mut [u8],
     diagnostics: &mut [u8],
@@ -1161,7 +1161,7 @@ fn walk_values(
     let mut head = heads;
     let mut i: u32 = 0;
     while i < n {
-        let w = walk_value(
+        let w = on_value(
             tree,
             out,
             diagnostics,
@@ -1192,7 +1192,7 @@ fn walk_values(
 }
 
 // A bind, of which `kept` of its frame were kept before: its value in a using frame, then its record if it is kept.
-fn walk_bind(
+fn on_bind(
     tree: &[u8],
     out: &mut [u8],
     diagnostics: &mut [u8],
@@ -1253,7 +1253,7 @@ fn walk_bind(
 }
 
 // n binds of a frame, whose slots before `base` are not for binds.
-fn walk_binds(
+fn on_binds(
     tree: &[u8],
     out: &mut [u8],
     diagnostics: &mut [u8],
@@ -1278,7 +1278,7 @@ fn walk_binds(
     let mut kept: u32 = 0;
     let mut i: u32 = 0;
     while i < n {
-        let w = walk_bind(
+        let w = on_bind(
             tree,
             out,
             diagnostics,
@@ -1310,7 +1310,7 @@ fn walk_binds(
 }
 
 // A parameter, of which `kept` of its frame were kept before.
-fn walk_param(
+fn on_param(
     tree: &[u8],
     out: &mut [u8],
     diagnostics: &mut [u8],
@@ -1390,7 +1390,7 @@ fn walk_param(
 }
 
 // n parameters.
-fn walk_params(
+fn on_params(
     tree: &[u8],
     out: &mut [u8],
     diagnostics: &mut [u8],
@@ -1414,7 +1414,7 @@ fn walk_params(
     let mut kept: u32 = 0;
     let mut i: u32 = 0;
     while i < n {
-        let w = walk_param(
+        let w = on_param(
             tree,
             out,
             diagnostics,

@@ -16,178 +16,178 @@ use Rattle.joins.proofs.Stages.{children-here, held-second-there}
 use Rattle.joins.proofs.Returns.{the-holder}
 use Rattle.joins.proofs.Returns.{held-first-stopped, held-one-ended, held-second-stopped, held-two-ended}
 use Rattle.walkers.proofs.analyze.Reads as analyze
-use Rattle.walkers.proofs.walk_held.Reads as walk-held
-use Rattle.walkers.proofs.+analyze+analyze_function+analyze_obj_members+walk_array+walk_assertions+walk_bind+walk_binds+walk_fields+walk_head+walk_heads+walk_held+walk_item+walk_items+walk_local+walk_object+walk_param+walk_params+walk_plain+walk_value+walk_values.Lts-walk_held as walk-held-lts
+use Rattle.walkers.proofs.on_held.Reads as on-held
+use Rattle.walkers.proofs.+analyze+on_array+on_assertions+on_bind+on_binds+on_fields+on_function+on_head+on_heads+on_held+on_item+on_items+on_local+on_members+on_object+on_param+on_params+on_plain+on_value+on_values.Lts-on_held as on-held-lts
 use Rattle.atoms.proofs.copy_record.Reads as copy-record-reads
 use Rattle.tree.proofs.children.Reads as children-reads
-use Rattle.walkers.proofs.+analyze+analyze_function+analyze_obj_members+walk_array+walk_assertions+walk_bind+walk_binds+walk_fields+walk_head+walk_heads+walk_held+walk_item+walk_items+walk_local+walk_object+walk_param+walk_params+walk_plain+walk_value+walk_values.Proof.Measures.{analyze-below, walk-held-at}
+use Rattle.walkers.proofs.+analyze+on_array+on_assertions+on_bind+on_binds+on_fields+on_function+on_head+on_heads+on_held+on_item+on_items+on_local+on_members+on_object+on_param+on_params+on_plain+on_value+on_values.Proof.Measures.{analyze-below, on-held-at}
 
-walk-held-sub-children : (t : ℕ) → walk-held-lts.Need-sub-children (
+on-held-sub-children : (t : ℕ) → on-held-lts.Need-sub-children (
   children-reads.Asked,
   children-reads.Learnt,
   analyze-below t,
   analyze.Post,
   copy-record-reads.Asked,
   copy-record-reads.Learnt,
-) (walk-held-at t) walk-held.Post
-walk-held-sub-children t c =
+) (on-held-at t) on-held.Post
+on-held-sub-children t c =
     let args· = c .before .before .before .before .before .before .before .args in
     let pre· = c .before .before .before .before .before .before .before .pre in
     omega (arith, (held-size (args· .tree .now) (limits-of (args· .limits) [] []) (args· .nest) (args· .at) ((pre· .1 .1) .read) (args· .mark) ((pre· .1 .1) .marked) (the-holder ((pre· .1 .1) .holder))))
 
-walk-held-part-children-start : (t : ℕ) → walk-held-lts.Need-part-children-start (
+on-held-part-children-start : (t : ℕ) → on-held-lts.Need-part-children-start (
   children-reads.Asked,
   children-reads.Learnt,
   analyze-below t,
   analyze.Post,
   copy-record-reads.Asked,
   copy-record-reads.Learnt,
-) (walk-held-at t) walk-held.Post
-walk-held-part-children-start t c =
+) (on-held-at t) on-held.Post
+on-held-part-children-start t c =
     let args· = c .before .before .before .before .before .before .before .args in
     let pre· = c .before .before .before .before .before .before .before .pre in
     omega (arith, (held-size (args· .tree .now) (limits-of (args· .limits) [] []) (args· .nest) (args· .at) ((pre· .1 .1) .read) (args· .mark) ((pre· .1 .1) .marked) (the-holder ((pre· .1 .1) .holder))))
 
-walk-held-part-children-end : (t : ℕ) → walk-held-lts.Need-part-children-end (
+on-held-part-children-end : (t : ℕ) → on-held-lts.Need-part-children-end (
   children-reads.Asked,
   children-reads.Learnt,
   analyze-below t,
   analyze.Post,
   copy-record-reads.Asked,
   copy-record-reads.Learnt,
-) (walk-held-at t) walk-held.Post
-walk-held-part-children-end t c =
+) (on-held-at t) on-held.Post
+on-held-part-children-end t c =
     let args· = c .before .before .before .before .before .before .before .args in
     let pre· = c .before .before .before .before .before .before .before .pre in
     omega (arith, (held-size (args· .tree .now) (limits-of (args· .limits) [] []) (args· .nest) (args· .at) ((pre· .1 .1) .read) (args· .mark) ((pre· .1 .1) .marked) (the-holder ((pre· .1 .1) .holder))))
 
-walk-held-children-requires : (t : ℕ) → walk-held-lts.Need-children-requires (
+on-held-children-requires : (t : ℕ) → on-held-lts.Need-children-requires (
   children-reads.Asked,
   children-reads.Learnt,
   analyze-below t,
   analyze.Post,
   copy-record-reads.Asked,
   copy-record-reads.Learnt,
-) (walk-held-at t) walk-held.Post
-walk-held-children-requires t c κs = search needs
+) (on-held-at t) on-held.Post
+on-held-children-requires t c κs = search needs
 
-walk-held-add-analyze : (t : ℕ) → walk-held-lts.Need-add-analyze (
+on-held-add-analyze : (t : ℕ) → on-held-lts.Need-add-analyze (
   children-reads.Asked,
   children-reads.Learnt,
   analyze-below t,
   analyze.Post,
   copy-record-reads.Asked,
   copy-record-reads.Learnt,
-) (walk-held-at t) walk-held.Post
-walk-held-add-analyze t c =
+) (on-held-at t) on-held.Post
+on-held-add-analyze t c =
     let args· = c .before .before .before .before .before .before .before .before .before .before .before .before .before .before .before .args in
     let pre· = c .before .before .before .before .before .before .before .before .before .before .before .before .before .before .before .pre in
     omega (arith, (held-size (args· .tree .now) (limits-of (args· .limits) [] []) (args· .nest) (args· .at) ((pre· .1 .1) .read) (args· .mark) ((pre· .1 .1) .marked) (the-holder ((pre· .1 .1) .holder))), (pre· .1 .0) .short)
 
-walk-held-analyze-requires : (t : ℕ) → walk-held-lts.Need-analyze-requires (
+on-held-analyze-requires : (t : ℕ) → on-held-lts.Need-analyze-requires (
   children-reads.Asked,
   children-reads.Learnt,
   analyze-below t,
   analyze.Post,
   copy-record-reads.Asked,
   copy-record-reads.Learnt,
-) (walk-held-at t) walk-held.Post
+) (on-held-at t) on-held.Post
 unfolding naming-of
-walk-held-analyze-requires t c κs =
+on-held-analyze-requires t c κs =
     let pre· = c .before .before .before .before .before .before .before .before .before .before .before .before .before .before .before .pre in
     let args· = c .before .before .before .before .before .before .before .before .before .before .before .before .before .before .before .args in
     (omega (arith, pre· .0), ((ready-on (omega arith) (omega arith) (pre· .1 .0)), held-first (args· .tree .now) (limits-of (args· .limits) [] []) (args· .nest) (args· .at) ((pre· .1 .1) .read) (args· .mark) ((pre· .1 .1) .marked) (the-holder ((pre· .1 .1) .holder))))
 
-walk-held-enum-known-first : (t : ℕ) → walk-held-lts.Need-enum-known-first (
+on-held-enum-known-first : (t : ℕ) → on-held-lts.Need-enum-known-first (
   children-reads.Asked,
   children-reads.Learnt,
   analyze-below t,
   analyze.Post,
   copy-record-reads.Asked,
   copy-record-reads.Learnt,
-) (walk-held-at t) walk-held.Post
-walk-held-enum-known-first t c = search needs
+) (on-held-at t) on-held.Post
+on-held-enum-known-first t c = search needs
 
-walk-held-enum-told : (t : ℕ) → walk-held-lts.Need-enum-told (
+on-held-enum-told : (t : ℕ) → on-held-lts.Need-enum-told (
   children-reads.Asked,
   children-reads.Learnt,
   analyze-below t,
   analyze.Post,
   copy-record-reads.Asked,
   copy-record-reads.Learnt,
-) (walk-held-at t) walk-held.Post
-walk-held-enum-told t c = search needs
+) (on-held-at t) on-held.Post
+on-held-enum-told t c = search needs
 
-walk-held-same-length : (t : ℕ) → walk-held-lts.Need-same-length (
+on-held-same-length : (t : ℕ) → on-held-lts.Need-same-length (
   children-reads.Asked,
   children-reads.Learnt,
   analyze-below t,
   analyze.Post,
   copy-record-reads.Asked,
   copy-record-reads.Learnt,
-) (walk-held-at t) walk-held.Post
-walk-held-same-length t c = c .before .before .before .before .before .before .before .before .before .before .before .before .before .before .analyze .kept .1 .0
+) (on-held-at t) on-held.Post
+on-held-same-length t c = c .before .before .before .before .before .before .before .before .before .before .before .before .before .before .analyze .kept .1 .0
 
-walk-held-same-length-2 : (t : ℕ) → walk-held-lts.Need-same-length-2 (
+on-held-same-length-2 : (t : ℕ) → on-held-lts.Need-same-length-2 (
   children-reads.Asked,
   children-reads.Learnt,
   analyze-below t,
   analyze.Post,
   copy-record-reads.Asked,
   copy-record-reads.Learnt,
-) (walk-held-at t) walk-held.Post
-walk-held-same-length-2 t c = c .before .before .before .before .before .before .before .before .before .before .before .before .before .before .analyze .kept .1 .1 .0
+) (on-held-at t) on-held.Post
+on-held-same-length-2 t c = c .before .before .before .before .before .before .before .before .before .before .before .before .before .before .analyze .kept .1 .1 .0
 
-walk-held-same-length-3 : (t : ℕ) → walk-held-lts.Need-same-length-3 (
+on-held-same-length-3 : (t : ℕ) → on-held-lts.Need-same-length-3 (
   children-reads.Asked,
   children-reads.Learnt,
   analyze-below t,
   analyze.Post,
   copy-record-reads.Asked,
   copy-record-reads.Learnt,
-) (walk-held-at t) walk-held.Post
-walk-held-same-length-3 t c = c .before .before .before .before .before .before .before .before .before .before .before .before .before .before .analyze .kept .1 .1 .1 .0
+) (on-held-at t) on-held.Post
+on-held-same-length-3 t c = c .before .before .before .before .before .before .before .before .before .before .before .before .before .before .analyze .kept .1 .1 .1 .0
 
-walk-held-same-length-4 : (t : ℕ) → walk-held-lts.Need-same-length-4 (
+on-held-same-length-4 : (t : ℕ) → on-held-lts.Need-same-length-4 (
   children-reads.Asked,
   children-reads.Learnt,
   analyze-below t,
   analyze.Post,
   copy-record-reads.Asked,
   copy-record-reads.Learnt,
-) (walk-held-at t) walk-held.Post
-walk-held-same-length-4 t c = c .before .before .before .before .before .before .before .before .before .before .before .before .before .before .analyze .kept .1 .1 .1 .1 .0
+) (on-held-at t) on-held.Post
+on-held-same-length-4 t c = c .before .before .before .before .before .before .before .before .before .before .before .before .before .before .analyze .kept .1 .1 .1 .1 .0
 
-walk-held-same-length-5 : (t : ℕ) → walk-held-lts.Need-same-length-5 (
+on-held-same-length-5 : (t : ℕ) → on-held-lts.Need-same-length-5 (
   children-reads.Asked,
   children-reads.Learnt,
   analyze-below t,
   analyze.Post,
   copy-record-reads.Asked,
   copy-record-reads.Learnt,
-) (walk-held-at t) walk-held.Post
-walk-held-same-length-5 t c = c .before .before .before .before .before .before .before .before .before .before .before .before .before .before .analyze .kept .1 .1 .1 .1 .1 .0
+) (on-held-at t) on-held.Post
+on-held-same-length-5 t c = c .before .before .before .before .before .before .before .before .before .before .before .before .before .before .analyze .kept .1 .1 .1 .1 .1 .0
 
-walk-held-same-length-6 : (t : ℕ) → walk-held-lts.Need-same-length-6 (
+on-held-same-length-6 : (t : ℕ) → on-held-lts.Need-same-length-6 (
   children-reads.Asked,
   children-reads.Learnt,
   analyze-below t,
   analyze.Post,
   copy-record-reads.Asked,
   copy-record-reads.Learnt,
-) (walk-held-at t) walk-held.Post
-walk-held-same-length-6 t c = c .before .before .before .before .before .before .before .before .before .before .before .before .before .before .analyze .kept .1 .1 .1 .1 .1 .1 .0
+) (on-held-at t) on-held.Post
+on-held-same-length-6 t c = c .before .before .before .before .before .before .before .before .before .before .before .before .before .before .analyze .kept .1 .1 .1 .1 .1 .1 .0
 
-walk-held-returns : (t : ℕ) → walk-held-lts.Need-returns (
+on-held-returns : (t : ℕ) → on-held-lts.Need-returns (
   children-reads.Asked,
   children-reads.Learnt,
   analyze-below t,
   analyze.Post,
   copy-record-reads.Asked,
   copy-record-reads.Learnt,
-) (walk-held-at t) walk-held.Post
+) (on-held-at t) on-held.Post
 unfolding naming-of
-walk-held-returns t c =
+on-held-returns t c =
     let args· = c .before .before .before .before .before .before .before .before .before .before .before .before .before .before .before .before .before .before .before .before .before .before .before .before .before .before .before .before .before .before .args in
     let pre· = c .before .before .before .before .before .before .before .before .before .before .before .before .before .before .before .before .before .before .before .before .before .before .before .before .before .before .before .before .before .before .pre in
     let children· = c .before .before .before .before .before .before .before .before .before .before .before .before .before .before .before .before .before .before .before .before .before .children in
@@ -195,90 +195,90 @@ walk-held-returns t c =
     let enum-told· = c .enum-told in
     held-first-stopped (args· .tree .now) (args· .nest) (args· .at) ((pre· .1 .1) .read) ((pre· .1 .1) .marked) (place-of (args· .here)) ((pre· .1 .1) .holder) (children-here (args· .tree .now) (args· .mark) (args· .at) (children· .ensures)) (analyze· .ensures) (enum-told· .given .1)
 
-walk-held-copy-record-requires : (t : ℕ) → walk-held-lts.Need-copy-record-requires (
+on-held-copy-record-requires : (t : ℕ) → on-held-lts.Need-copy-record-requires (
   children-reads.Asked,
   children-reads.Learnt,
   analyze-below t,
   analyze.Post,
   copy-record-reads.Asked,
   copy-record-reads.Learnt,
-) (walk-held-at t) walk-held.Post
+) (on-held-at t) on-held.Post
 unfolding naming-of
-walk-held-copy-record-requires t c κs =
+on-held-copy-record-requires t c κs =
     let args· = c .before .before .before .before .before .before .before .before .before .before .before .before .before .before .before .before .before .before .before .before .before .before .before .before .before .before .before .before .before .before .before .before .before .args in
     let pre· = c .before .before .before .before .before .before .before .before .before .before .before .before .before .before .before .before .before .before .before .before .before .before .before .before .before .before .before .before .before .before .before .before .before .pre in
     (omega (arith, (held-size (args· .tree .now) (limits-of (args· .limits) [] []) (args· .nest) (args· .at) ((pre· .1 .1) .read) (args· .mark) ((pre· .1 .1) .marked) (the-holder ((pre· .1 .1) .holder))), held-sized (args· .tree .now) (limits-of (args· .limits) [] []) (args· .nest) (args· .at) ((pre· .1 .1) .read) (args· .mark) ((pre· .1 .1) .marked) (the-holder ((pre· .1 .1) .holder))), held-marked (args· .tree .now) (limits-of (args· .limits) [] []) (args· .nest) (args· .at) ((pre· .1 .1) .read) (args· .mark) ((pre· .1 .1) .marked) (the-holder ((pre· .1 .1) .holder)))
 
-walk-held-same-length-7 : (t : ℕ) → walk-held-lts.Need-same-length-7 (
+on-held-same-length-7 : (t : ℕ) → on-held-lts.Need-same-length-7 (
   children-reads.Asked,
   children-reads.Learnt,
   analyze-below t,
   analyze.Post,
   copy-record-reads.Asked,
   copy-record-reads.Learnt,
-) (walk-held-at t) walk-held.Post
-walk-held-same-length-7 t c = c .before .before .copy-record .kept .1 .0 ∙ c .before .before .before .before .before .before .before .before .before .before .before .before .before .before .before .before .before .before .before .before .analyze .kept .1 .0
+) (on-held-at t) on-held.Post
+on-held-same-length-7 t c = c .before .before .copy-record .kept .1 .0 ∙ c .before .before .before .before .before .before .before .before .before .before .before .before .before .before .before .before .before .before .before .before .analyze .kept .1 .0
 
-walk-held-same-length-8 : (t : ℕ) → walk-held-lts.Need-same-length-8 (
+on-held-same-length-8 : (t : ℕ) → on-held-lts.Need-same-length-8 (
   children-reads.Asked,
   children-reads.Learnt,
   analyze-below t,
   analyze.Post,
   copy-record-reads.Asked,
   copy-record-reads.Learnt,
-) (walk-held-at t) walk-held.Post
-walk-held-same-length-8 t c = c .before .before .before .before .before .before .before .before .before .before .before .before .before .before .before .before .before .before .before .before .analyze .kept .1 .1 .0
+) (on-held-at t) on-held.Post
+on-held-same-length-8 t c = c .before .before .before .before .before .before .before .before .before .before .before .before .before .before .before .before .before .before .before .before .analyze .kept .1 .1 .0
 
-walk-held-same-length-9 : (t : ℕ) → walk-held-lts.Need-same-length-9 (
+on-held-same-length-9 : (t : ℕ) → on-held-lts.Need-same-length-9 (
   children-reads.Asked,
   children-reads.Learnt,
   analyze-below t,
   analyze.Post,
   copy-record-reads.Asked,
   copy-record-reads.Learnt,
-) (walk-held-at t) walk-held.Post
-walk-held-same-length-9 t c = c .before .before .before .before .before .before .before .before .before .before .before .before .before .before .before .before .before .before .before .before .analyze .kept .1 .1 .1 .0
+) (on-held-at t) on-held.Post
+on-held-same-length-9 t c = c .before .before .before .before .before .before .before .before .before .before .before .before .before .before .before .before .before .before .before .before .analyze .kept .1 .1 .1 .0
 
-walk-held-same-length-10 : (t : ℕ) → walk-held-lts.Need-same-length-10 (
+on-held-same-length-10 : (t : ℕ) → on-held-lts.Need-same-length-10 (
   children-reads.Asked,
   children-reads.Learnt,
   analyze-below t,
   analyze.Post,
   copy-record-reads.Asked,
   copy-record-reads.Learnt,
-) (walk-held-at t) walk-held.Post
-walk-held-same-length-10 t c = c .before .before .before .before .before .before .before .before .before .before .before .before .before .before .before .before .before .before .before .before .analyze .kept .1 .1 .1 .1 .0
+) (on-held-at t) on-held.Post
+on-held-same-length-10 t c = c .before .before .before .before .before .before .before .before .before .before .before .before .before .before .before .before .before .before .before .before .analyze .kept .1 .1 .1 .1 .0
 
-walk-held-same-length-11 : (t : ℕ) → walk-held-lts.Need-same-length-11 (
+on-held-same-length-11 : (t : ℕ) → on-held-lts.Need-same-length-11 (
   children-reads.Asked,
   children-reads.Learnt,
   analyze-below t,
   analyze.Post,
   copy-record-reads.Asked,
   copy-record-reads.Learnt,
-) (walk-held-at t) walk-held.Post
-walk-held-same-length-11 t c = c .before .before .before .before .before .before .before .before .before .before .before .before .before .before .before .before .before .before .before .before .analyze .kept .1 .1 .1 .1 .1 .0
+) (on-held-at t) on-held.Post
+on-held-same-length-11 t c = c .before .before .before .before .before .before .before .before .before .before .before .before .before .before .before .before .before .before .before .before .analyze .kept .1 .1 .1 .1 .1 .0
 
-walk-held-same-length-12 : (t : ℕ) → walk-held-lts.Need-same-length-12 (
+on-held-same-length-12 : (t : ℕ) → on-held-lts.Need-same-length-12 (
   children-reads.Asked,
   children-reads.Learnt,
   analyze-below t,
   analyze.Post,
   copy-record-reads.Asked,
   copy-record-reads.Learnt,
-) (walk-held-at t) walk-held.Post
-walk-held-same-length-12 t c = c .before .before .before .before .before .before .before .before .before .before .before .before .before .before .before .before .before .before .before .before .analyze .kept .1 .1 .1 .1 .1 .1 .0
+) (on-held-at t) on-held.Post
+on-held-same-length-12 t c = c .before .before .before .before .before .before .before .before .before .before .before .before .before .before .before .before .before .before .before .before .analyze .kept .1 .1 .1 .1 .1 .1 .0
 
-walk-held-returns-2 : (t : ℕ) → walk-held-lts.Need-returns-2 (
+on-held-returns-2 : (t : ℕ) → on-held-lts.Need-returns-2 (
   children-reads.Asked,
   children-reads.Learnt,
   analyze-below t,
   analyze.Post,
   copy-record-reads.Asked,
   copy-record-reads.Learnt,
-) (walk-held-at t) walk-held.Post
+) (on-held-at t) on-held.Post
 unfolding naming-of
-walk-held-returns-2 t c =
+on-held-returns-2 t c =
     let args· = c .before .before .before .before .before .before .before .before .before .before .before .before .before .before .before .before .before .before .before .before .before .before .before .before .before .before .before .before .before .before .before .before .before .before .before .before .args in
     let pre· = c .before .before .before .before .before .before .before .before .before .before .before .before .before .before .before .before .before .before .before .before .before .before .before .before .before .before .before .before .before .before .before .before .before .before .before .before .pre in
     let children· = c .before .before .before .before .before .before .before .before .before .before .before .before .before .before .before .before .before .before .before .before .before .before .before .before .before .before .before .children in
@@ -288,16 +288,16 @@ walk-held-returns-2 t c =
     let copy-record· = c .before .before .copy-record in
     held-one-ended (args· .tree .now) (args· .nest) (args· .at) ((pre· .1 .1) .read) ((pre· .1 .1) .marked) (place-of (args· .here)) ((pre· .1 .1) .holder) (children-here (args· .tree .now) (args· .mark) (args· .at) (children· .ensures)) (analyze· .ensures) (if1· .taken) (first· .given .1) (record { out = analyze· .kept .1 .0; diagnostics = analyze· .kept .1 .1 .0 }) (copy-record· .ensures .walks (args· .limits) _ _ _ _ _ (went-fit (analyze· .ensures) (first· .given .1)))
 
-walk-held-analyze-requires-2 : (t : ℕ) → walk-held-lts.Need-analyze-requires-2 (
+on-held-analyze-requires-2 : (t : ℕ) → on-held-lts.Need-analyze-requires-2 (
   children-reads.Asked,
   children-reads.Learnt,
   analyze-below t,
   analyze.Post,
   copy-record-reads.Asked,
   copy-record-reads.Learnt,
-) (walk-held-at t) walk-held.Post
+) (on-held-at t) on-held.Post
 unfolding naming-of
-walk-held-analyze-requires-2 t c κs =
+on-held-analyze-requires-2 t c κs =
     let pre· = c .before .before .before .before .before .before .before .before .before .before .before .before .before .before .before .before .before .before .before .before .before .before .before .before .before .before .before .before .before .before .before .before .before .before .before .before .before .before .pre in
     let args· = c .before .before .before .before .before .before .before .before .before .before .before .before .before .before .before .before .before .before .before .before .before .before .before .before .before .before .before .before .before .before .before .before .before .before .before .before .before .before .args in
     let analyze· = c .before .before .before .before .before .before .before .before .before .before .before .before .before .before .before .before .before .before .before .before .before .before .analyze in
@@ -306,96 +306,96 @@ walk-held-analyze-requires-2 t c κs =
     let if1· = c .before .before .before .before .before .before .if1 in
     (omega (arith, pre· .0), ((ready-expr (ready-on (omega arith) (omega arith) (pre· .1 .0)) (args· .nest) unnamed (place-of (args· .here)) (analyze· .ensures) (first· .given .1)), held-second-there (pre· .1 .1) (children-here (args· .tree .now) (args· .mark) (args· .at) (children· .ensures)) (if1· .left) (place-of (args· .here)) (analyze· .ensures) (first· .given .1)))
 
-walk-held-enum-known-second : (t : ℕ) → walk-held-lts.Need-enum-known-second (
+on-held-enum-known-second : (t : ℕ) → on-held-lts.Need-enum-known-second (
   children-reads.Asked,
   children-reads.Learnt,
   analyze-below t,
   analyze.Post,
   copy-record-reads.Asked,
   copy-record-reads.Learnt,
-) (walk-held-at t) walk-held.Post
-walk-held-enum-known-second t c = search needs
+) (on-held-at t) on-held.Post
+on-held-enum-known-second t c = search needs
 
-walk-held-enum-told-2 : (t : ℕ) → walk-held-lts.Need-enum-told-2 (
+on-held-enum-told-2 : (t : ℕ) → on-held-lts.Need-enum-told-2 (
   children-reads.Asked,
   children-reads.Learnt,
   analyze-below t,
   analyze.Post,
   copy-record-reads.Asked,
   copy-record-reads.Learnt,
-) (walk-held-at t) walk-held.Post
-walk-held-enum-told-2 t c = search needs
+) (on-held-at t) on-held.Post
+on-held-enum-told-2 t c = search needs
 
-walk-held-same-length-13 : (t : ℕ) → walk-held-lts.Need-same-length-13 (
+on-held-same-length-13 : (t : ℕ) → on-held-lts.Need-same-length-13 (
   children-reads.Asked,
   children-reads.Learnt,
   analyze-below t,
   analyze.Post,
   copy-record-reads.Asked,
   copy-record-reads.Learnt,
-) (walk-held-at t) walk-held.Post
-walk-held-same-length-13 t c = c .before .before .before .before .before .before .before .before .before .before .before .before .before .before .analyze2 .kept .1 .0 ∙ c .before .before .before .before .before .before .before .before .before .before .before .before .before .before .before .before .before .before .before .before .before .before .before .before .before .before .before .before .before .before .before .before .before .before .before .before .before .analyze .kept .1 .0
+) (on-held-at t) on-held.Post
+on-held-same-length-13 t c = c .before .before .before .before .before .before .before .before .before .before .before .before .before .before .analyze2 .kept .1 .0 ∙ c .before .before .before .before .before .before .before .before .before .before .before .before .before .before .before .before .before .before .before .before .before .before .before .before .before .before .before .before .before .before .before .before .before .before .before .before .before .analyze .kept .1 .0
 
-walk-held-same-length-14 : (t : ℕ) → walk-held-lts.Need-same-length-14 (
+on-held-same-length-14 : (t : ℕ) → on-held-lts.Need-same-length-14 (
   children-reads.Asked,
   children-reads.Learnt,
   analyze-below t,
   analyze.Post,
   copy-record-reads.Asked,
   copy-record-reads.Learnt,
-) (walk-held-at t) walk-held.Post
-walk-held-same-length-14 t c = c .before .before .before .before .before .before .before .before .before .before .before .before .before .before .analyze2 .kept .1 .1 .0 ∙ c .before .before .before .before .before .before .before .before .before .before .before .before .before .before .before .before .before .before .before .before .before .before .before .before .before .before .before .before .before .before .before .before .before .before .before .before .before .analyze .kept .1 .1 .0
+) (on-held-at t) on-held.Post
+on-held-same-length-14 t c = c .before .before .before .before .before .before .before .before .before .before .before .before .before .before .analyze2 .kept .1 .1 .0 ∙ c .before .before .before .before .before .before .before .before .before .before .before .before .before .before .before .before .before .before .before .before .before .before .before .before .before .before .before .before .before .before .before .before .before .before .before .before .before .analyze .kept .1 .1 .0
 
-walk-held-same-length-15 : (t : ℕ) → walk-held-lts.Need-same-length-15 (
+on-held-same-length-15 : (t : ℕ) → on-held-lts.Need-same-length-15 (
   children-reads.Asked,
   children-reads.Learnt,
   analyze-below t,
   analyze.Post,
   copy-record-reads.Asked,
   copy-record-reads.Learnt,
-) (walk-held-at t) walk-held.Post
-walk-held-same-length-15 t c = c .before .before .before .before .before .before .before .before .before .before .before .before .before .before .analyze2 .kept .1 .1 .1 .0 ∙ c .before .before .before .before .before .before .before .before .before .before .before .before .before .before .before .before .before .before .before .before .before .before .before .before .before .before .before .before .before .before .before .before .before .before .before .before .before .analyze .kept .1 .1 .1 .0
+) (on-held-at t) on-held.Post
+on-held-same-length-15 t c = c .before .before .before .before .before .before .before .before .before .before .before .before .before .before .analyze2 .kept .1 .1 .1 .0 ∙ c .before .before .before .before .before .before .before .before .before .before .before .before .before .before .before .before .before .before .before .before .before .before .before .before .before .before .before .before .before .before .before .before .before .before .before .before .before .analyze .kept .1 .1 .1 .0
 
-walk-held-same-length-16 : (t : ℕ) → walk-held-lts.Need-same-length-16 (
+on-held-same-length-16 : (t : ℕ) → on-held-lts.Need-same-length-16 (
   children-reads.Asked,
   children-reads.Learnt,
   analyze-below t,
   analyze.Post,
   copy-record-reads.Asked,
   copy-record-reads.Learnt,
-) (walk-held-at t) walk-held.Post
-walk-held-same-length-16 t c = c .before .before .before .before .before .before .before .before .before .before .before .before .before .before .analyze2 .kept .1 .1 .1 .1 .0 ∙ c .before .before .before .before .before .before .before .before .before .before .before .before .before .before .before .before .before .before .before .before .before .before .before .before .before .before .before .before .before .before .before .before .before .before .before .before .before .analyze .kept .1 .1 .1 .1 .0
+) (on-held-at t) on-held.Post
+on-held-same-length-16 t c = c .before .before .before .before .before .before .before .before .before .before .before .before .before .before .analyze2 .kept .1 .1 .1 .1 .0 ∙ c .before .before .before .before .before .before .before .before .before .before .before .before .before .before .before .before .before .before .before .before .before .before .before .before .before .before .before .before .before .before .before .before .before .before .before .before .before .analyze .kept .1 .1 .1 .1 .0
 
-walk-held-same-length-17 : (t : ℕ) → walk-held-lts.Need-same-length-17 (
+on-held-same-length-17 : (t : ℕ) → on-held-lts.Need-same-length-17 (
   children-reads.Asked,
   children-reads.Learnt,
   analyze-below t,
   analyze.Post,
   copy-record-reads.Asked,
   copy-record-reads.Learnt,
-) (walk-held-at t) walk-held.Post
-walk-held-same-length-17 t c = c .before .before .before .before .before .before .before .before .before .before .before .before .before .before .analyze2 .kept .1 .1 .1 .1 .1 .0 ∙ c .before .before .before .before .before .before .before .before .before .before .before .before .before .before .before .before .before .before .before .before .before .before .before .before .before .before .before .before .before .before .before .before .before .before .before .before .before .analyze .kept .1 .1 .1 .1 .1 .0
+) (on-held-at t) on-held.Post
+on-held-same-length-17 t c = c .before .before .before .before .before .before .before .before .before .before .before .before .before .before .analyze2 .kept .1 .1 .1 .1 .1 .0 ∙ c .before .before .before .before .before .before .before .before .before .before .before .before .before .before .before .before .before .before .before .before .before .before .before .before .before .before .before .before .before .before .before .before .before .before .before .before .before .analyze .kept .1 .1 .1 .1 .1 .0
 
-walk-held-same-length-18 : (t : ℕ) → walk-held-lts.Need-same-length-18 (
+on-held-same-length-18 : (t : ℕ) → on-held-lts.Need-same-length-18 (
   children-reads.Asked,
   children-reads.Learnt,
   analyze-below t,
   analyze.Post,
   copy-record-reads.Asked,
   copy-record-reads.Learnt,
-) (walk-held-at t) walk-held.Post
-walk-held-same-length-18 t c = c .before .before .before .before .before .before .before .before .before .before .before .before .before .before .analyze2 .kept .1 .1 .1 .1 .1 .1 .0 ∙ c .before .before .before .before .before .before .before .before .before .before .before .before .before .before .before .before .before .before .before .before .before .before .before .before .before .before .before .before .before .before .before .before .before .before .before .before .before .analyze .kept .1 .1 .1 .1 .1 .1 .0
+) (on-held-at t) on-held.Post
+on-held-same-length-18 t c = c .before .before .before .before .before .before .before .before .before .before .before .before .before .before .analyze2 .kept .1 .1 .1 .1 .1 .1 .0 ∙ c .before .before .before .before .before .before .before .before .before .before .before .before .before .before .before .before .before .before .before .before .before .before .before .before .before .before .before .before .before .before .before .before .before .before .before .before .before .analyze .kept .1 .1 .1 .1 .1 .1 .0
 
-walk-held-returns-3 : (t : ℕ) → walk-held-lts.Need-returns-3 (
+on-held-returns-3 : (t : ℕ) → on-held-lts.Need-returns-3 (
   children-reads.Asked,
   children-reads.Learnt,
   analyze-below t,
   analyze.Post,
   copy-record-reads.Asked,
   copy-record-reads.Learnt,
-) (walk-held-at t) walk-held.Post
+) (on-held-at t) on-held.Post
 unfolding naming-of
-walk-held-returns-3 t c =
+on-held-returns-3 t c =
     let args· = c .before .before .before .before .before .before .before .before .before .before .before .before .before .before .before .before .before .before .before .before .before .before .before .before .before .before .before .before .before .before .before .before .before .before .before .before .before .before .before .before .before .before .before .before .before .before .before .before .before .before .before .before .before .args in
     let pre· = c .before .before .before .before .before .before .before .before .before .before .before .before .before .before .before .before .before .before .before .before .before .before .before .before .before .before .before .before .before .before .before .before .before .before .before .before .before .before .before .before .before .before .before .before .before .before .before .before .before .before .before .before .before .pre in
     let children· = c .before .before .before .before .before .before .before .before .before .before .before .before .before .before .before .before .before .before .before .before .before .before .before .before .before .before .before .before .before .before .before .before .before .before .before .before .before .before .before .before .before .before .before .before .children in
@@ -406,90 +406,90 @@ walk-held-returns-3 t c =
     let enum-told2· = c .enum-told2 in
     held-second-stopped (args· .tree .now) (args· .nest) (args· .at) ((pre· .1 .1) .read) ((pre· .1 .1) .marked) (place-of (args· .here)) ((pre· .1 .1) .holder) (children-here (args· .tree .now) (args· .mark) (args· .at) (children· .ensures)) (analyze· .ensures) (if1· .left) (first· .given .1) (record { out = analyze· .kept .1 .0; diagnostics = analyze· .kept .1 .1 .0 }) (analyze2· .ensures) (enum-told2· .given .1)
 
-walk-held-copy-record-requires-2 : (t : ℕ) → walk-held-lts.Need-copy-record-requires-2 (
+on-held-copy-record-requires-2 : (t : ℕ) → on-held-lts.Need-copy-record-requires-2 (
   children-reads.Asked,
   children-reads.Learnt,
   analyze-below t,
   analyze.Post,
   copy-record-reads.Asked,
   copy-record-reads.Learnt,
-) (walk-held-at t) walk-held.Post
+) (on-held-at t) on-held.Post
 unfolding naming-of
-walk-held-copy-record-requires-2 t c κs =
+on-held-copy-record-requires-2 t c κs =
     let args· = c .before .before .before .before .before .before .before .before .before .before .before .before .before .before .before .before .before .before .before .before .before .before .before .before .before .before .before .before .before .before .before .before .before .before .before .before .before .before .before .before .before .before .before .before .before .before .before .before .before .before .before .before .before .before .before .args in
     let pre· = c .before .before .before .before .before .before .before .before .before .before .before .before .before .before .before .before .before .before .before .before .before .before .before .before .before .before .before .before .before .before .before .before .before .before .before .before .before .before .before .before .before .before .before .before .before .before .before .before .before .before .before .before .before .before .before .pre in
     (omega (arith, (held-size (args· .tree .now) (limits-of (args· .limits) [] []) (args· .nest) (args· .at) ((pre· .1 .1) .read) (args· .mark) ((pre· .1 .1) .marked) (the-holder ((pre· .1 .1) .holder))), held-sized (args· .tree .now) (limits-of (args· .limits) [] []) (args· .nest) (args· .at) ((pre· .1 .1) .read) (args· .mark) ((pre· .1 .1) .marked) (the-holder ((pre· .1 .1) .holder))), held-marked (args· .tree .now) (limits-of (args· .limits) [] []) (args· .nest) (args· .at) ((pre· .1 .1) .read) (args· .mark) ((pre· .1 .1) .marked) (the-holder ((pre· .1 .1) .holder)))
 
-walk-held-same-length-19 : (t : ℕ) → walk-held-lts.Need-same-length-19 (
+on-held-same-length-19 : (t : ℕ) → on-held-lts.Need-same-length-19 (
   children-reads.Asked,
   children-reads.Learnt,
   analyze-below t,
   analyze.Post,
   copy-record-reads.Asked,
   copy-record-reads.Learnt,
-) (walk-held-at t) walk-held.Post
-walk-held-same-length-19 t c = c .before .before .copy-record2 .kept .1 .0 ∙ c .before .before .before .before .before .before .before .before .before .before .before .before .before .before .before .before .before .before .before .analyze2 .kept .1 .0 ∙ c .before .before .before .before .before .before .before .before .before .before .before .before .before .before .before .before .before .before .before .before .before .before .before .before .before .before .before .before .before .before .before .before .before .before .before .before .before .before .before .before .before .before .analyze .kept .1 .0
+) (on-held-at t) on-held.Post
+on-held-same-length-19 t c = c .before .before .copy-record2 .kept .1 .0 ∙ c .before .before .before .before .before .before .before .before .before .before .before .before .before .before .before .before .before .before .before .analyze2 .kept .1 .0 ∙ c .before .before .before .before .before .before .before .before .before .before .before .before .before .before .before .before .before .before .before .before .before .before .before .before .before .before .before .before .before .before .before .before .before .before .before .before .before .before .before .before .before .before .analyze .kept .1 .0
 
-walk-held-same-length-20 : (t : ℕ) → walk-held-lts.Need-same-length-20 (
+on-held-same-length-20 : (t : ℕ) → on-held-lts.Need-same-length-20 (
   children-reads.Asked,
   children-reads.Learnt,
   analyze-below t,
   analyze.Post,
   copy-record-reads.Asked,
   copy-record-reads.Learnt,
-) (walk-held-at t) walk-held.Post
-walk-held-same-length-20 t c = c .before .before .before .before .before .before .before .before .before .before .before .before .before .before .before .before .before .before .before .analyze2 .kept .1 .1 .0 ∙ c .before .before .before .before .before .before .before .before .before .before .before .before .before .before .before .before .before .before .before .before .before .before .before .before .before .before .before .before .before .before .before .before .before .before .before .before .before .before .before .before .before .before .analyze .kept .1 .1 .0
+) (on-held-at t) on-held.Post
+on-held-same-length-20 t c = c .before .before .before .before .before .before .before .before .before .before .before .before .before .before .before .before .before .before .before .analyze2 .kept .1 .1 .0 ∙ c .before .before .before .before .before .before .before .before .before .before .before .before .before .before .before .before .before .before .before .before .before .before .before .before .before .before .before .before .before .before .before .before .before .before .before .before .before .before .before .before .before .before .analyze .kept .1 .1 .0
 
-walk-held-same-length-21 : (t : ℕ) → walk-held-lts.Need-same-length-21 (
+on-held-same-length-21 : (t : ℕ) → on-held-lts.Need-same-length-21 (
   children-reads.Asked,
   children-reads.Learnt,
   analyze-below t,
   analyze.Post,
   copy-record-reads.Asked,
   copy-record-reads.Learnt,
-) (walk-held-at t) walk-held.Post
-walk-held-same-length-21 t c = c .before .before .before .before .before .before .before .before .before .before .before .before .before .before .before .before .before .before .before .analyze2 .kept .1 .1 .1 .0 ∙ c .before .before .before .before .before .before .before .before .before .before .before .before .before .before .before .before .before .before .before .before .before .before .before .before .before .before .before .before .before .before .before .before .before .before .before .before .before .before .before .before .before .before .analyze .kept .1 .1 .1 .0
+) (on-held-at t) on-held.Post
+on-held-same-length-21 t c = c .before .before .before .before .before .before .before .before .before .before .before .before .before .before .before .before .before .before .before .analyze2 .kept .1 .1 .1 .0 ∙ c .before .before .before .before .before .before .before .before .before .before .before .before .before .before .before .before .before .before .before .before .before .before .before .before .before .before .before .before .before .before .before .before .before .before .before .before .before .before .before .before .before .before .analyze .kept .1 .1 .1 .0
 
-walk-held-same-length-22 : (t : ℕ) → walk-held-lts.Need-same-length-22 (
+on-held-same-length-22 : (t : ℕ) → on-held-lts.Need-same-length-22 (
   children-reads.Asked,
   children-reads.Learnt,
   analyze-below t,
   analyze.Post,
   copy-record-reads.Asked,
   copy-record-reads.Learnt,
-) (walk-held-at t) walk-held.Post
-walk-held-same-length-22 t c = c .before .before .before .before .before .before .before .before .before .before .before .before .before .before .before .before .before .before .before .analyze2 .kept .1 .1 .1 .1 .0 ∙ c .before .before .before .before .before .before .before .before .before .before .before .before .before .before .before .before .before .before .before .before .before .before .before .before .before .before .before .before .before .before .before .before .before .before .before .before .before .before .before .before .before .before .analyze .kept .1 .1 .1 .1 .0
+) (on-held-at t) on-held.Post
+on-held-same-length-22 t c = c .before .before .before .before .before .before .before .before .before .before .before .before .before .before .before .before .before .before .before .analyze2 .kept .1 .1 .1 .1 .0 ∙ c .before .before .before .before .before .before .before .before .before .before .before .before .before .before .before .before .before .before .before .before .before .before .before .before .before .before .before .before .before .before .before .before .before .before .before .before .before .before .before .before .before .before .analyze .kept .1 .1 .1 .1 .0
 
-walk-held-same-length-23 : (t : ℕ) → walk-held-lts.Need-same-length-23 (
+on-held-same-length-23 : (t : ℕ) → on-held-lts.Need-same-length-23 (
   children-reads.Asked,
   children-reads.Learnt,
   analyze-below t,
   analyze.Post,
   copy-record-reads.Asked,
   copy-record-reads.Learnt,
-) (walk-held-at t) walk-held.Post
-walk-held-same-length-23 t c = c .before .before .before .before .before .before .before .before .before .before .before .before .before .before .before .before .before .before .before .analyze2 .kept .1 .1 .1 .1 .1 .0 ∙ c .before .before .before .before .before .before .before .before .before .before .before .before .before .before .before .before .before .before .before .before .before .before .before .before .before .before .before .before .before .before .before .before .before .before .before .before .before .before .before .before .before .before .analyze .kept .1 .1 .1 .1 .1 .0
+) (on-held-at t) on-held.Post
+on-held-same-length-23 t c = c .before .before .before .before .before .before .before .before .before .before .before .before .before .before .before .before .before .before .before .analyze2 .kept .1 .1 .1 .1 .1 .0 ∙ c .before .before .before .before .before .before .before .before .before .before .before .before .before .before .before .before .before .before .before .before .before .before .before .before .before .before .before .before .before .before .before .before .before .before .before .before .before .before .before .before .before .before .analyze .kept .1 .1 .1 .1 .1 .0
 
-walk-held-same-length-24 : (t : ℕ) → walk-held-lts.Need-same-length-24 (
+on-held-same-length-24 : (t : ℕ) → on-held-lts.Need-same-length-24 (
   children-reads.Asked,
   children-reads.Learnt,
   analyze-below t,
   analyze.Post,
   copy-record-reads.Asked,
   copy-record-reads.Learnt,
-) (walk-held-at t) walk-held.Post
-walk-held-same-length-24 t c = c .before .before .before .before .before .before .before .before .before .before .before .before .before .before .before .before .before .before .before .analyze2 .kept .1 .1 .1 .1 .1 .1 .0 ∙ c .before .before .before .before .before .before .before .before .before .before .before .before .before .before .before .before .before .before .before .before .before .before .before .before .before .before .before .before .before .before .before .before .before .before .before .before .before .before .before .before .before .before .analyze .kept .1 .1 .1 .1 .1 .1 .0
+) (on-held-at t) on-held.Post
+on-held-same-length-24 t c = c .before .before .before .before .before .before .before .before .before .before .before .before .before .before .before .before .before .before .before .analyze2 .kept .1 .1 .1 .1 .1 .1 .0 ∙ c .before .before .before .before .before .before .before .before .before .before .before .before .before .before .before .before .before .before .before .before .before .before .before .before .before .before .before .before .before .before .before .before .before .before .before .before .before .before .before .before .before .before .analyze .kept .1 .1 .1 .1 .1 .1 .0
 
-walk-held-returns-4 : (t : ℕ) → walk-held-lts.Need-returns-4 (
+on-held-returns-4 : (t : ℕ) → on-held-lts.Need-returns-4 (
   children-reads.Asked,
   children-reads.Learnt,
   analyze-below t,
   analyze.Post,
   copy-record-reads.Asked,
   copy-record-reads.Learnt,
-) (walk-held-at t) walk-held.Post
+) (on-held-at t) on-held.Post
 unfolding naming-of
-walk-held-returns-4 t c =
+on-held-returns-4 t c =
     let args· = c .before .before .before .before .before .before .before .before .before .before .before .before .before .before .before .before .before .before .before .before .before .before .before .before .before .before .before .before .before .before .before .before .before .before .before .before .before .before .before .before .before .before .before .before .before .before .before .before .before .before .before .before .before .before .before .before .before .before .args in
     let pre· = c .before .before .before .before .before .before .before .before .before .before .before .before .before .before .before .before .before .before .before .before .before .before .before .before .before .before .before .before .before .before .before .before .before .before .before .before .before .before .before .before .before .before .before .before .before .before .before .before .before .before .before .before .before .before .before .before .before .before .pre in
     let children· = c .before .before .before .before .before .before .before .before .before .before .before .before .before .before .before .before .before .before .before .before .before .before .before .before .before .before .before .before .before .before .before .before .before .before .before .before .before .before .before .before .before .before .before .before .before .before .before .before .before .children in
@@ -501,15 +501,15 @@ walk-held-returns-4 t c =
     let copy-record2· = c .before .before .copy-record2 in
     held-two-ended (args· .tree .now) (args· .nest) (args· .at) ((pre· .1 .1) .read) ((pre· .1 .1) .marked) (place-of (args· .here)) ((pre· .1 .1) .holder) (children-here (args· .tree .now) (args· .mark) (args· .at) (children· .ensures)) (analyze· .ensures) (if1· .left) (first· .given .1) (record { out = analyze· .kept .1 .0; diagnostics = analyze· .kept .1 .1 .0 }) (analyze2· .ensures) (second· .given .1) (record { out = analyze2· .kept .1 .0; diagnostics = analyze2· .kept .1 .1 .0 }) (copy-record2· .ensures .walks (args· .limits) _ _ _ _ _ (went-fit (analyze2· .ensures) (second· .given .1)))
 
-pub walk-held-met : {M : Type 1} (t : ℕ) → walk-held-lts.Closed (
+pub on-held-met : {M : Type 1} (t : ℕ) → on-held-lts.Closed (
   children-reads.Asked,
   children-reads.Learnt,
   analyze-below t,
   analyze.Post,
   copy-record-reads.Asked,
   copy-record-reads.Learnt,
-) (walk-held-at t) walk-held.Post M
-walk-held-met t = walk-held-lts.spec (
+) (on-held-at t) on-held.Post M
+on-held-met t = on-held-lts.spec (
   children-reads.Asked,
   children-reads.Learnt,
   analyze-below t,
@@ -517,46 +517,46 @@ walk-held-met t = walk-held-lts.spec (
   copy-record-reads.Asked,
   copy-record-reads.Learnt,
 )
-    (walk-held-at t)
-    walk-held.Post
-    (walk-held-sub-children t)
-    (walk-held-part-children-start t)
-    (walk-held-part-children-end t)
-    (walk-held-children-requires t)
-    (walk-held-add-analyze t)
-    (walk-held-analyze-requires t)
-    (walk-held-enum-known-first t)
-    (walk-held-enum-told t)
-    (walk-held-same-length t)
-    (walk-held-same-length-2 t)
-    (walk-held-same-length-3 t)
-    (walk-held-same-length-4 t)
-    (walk-held-same-length-5 t)
-    (walk-held-same-length-6 t)
-    (walk-held-returns t)
-    (walk-held-copy-record-requires t)
-    (walk-held-same-length-7 t)
-    (walk-held-same-length-8 t)
-    (walk-held-same-length-9 t)
-    (walk-held-same-length-10 t)
-    (walk-held-same-length-11 t)
-    (walk-held-same-length-12 t)
-    (walk-held-returns-2 t)
-    (walk-held-analyze-requires-2 t)
-    (walk-held-enum-known-second t)
-    (walk-held-enum-told-2 t)
-    (walk-held-same-length-13 t)
-    (walk-held-same-length-14 t)
-    (walk-held-same-length-15 t)
-    (walk-held-same-length-16 t)
-    (walk-held-same-length-17 t)
-    (walk-held-same-length-18 t)
-    (walk-held-returns-3 t)
-    (walk-held-copy-record-requires-2 t)
-    (walk-held-same-length-19 t)
-    (walk-held-same-length-20 t)
-    (walk-held-same-length-21 t)
-    (walk-held-same-length-22 t)
-    (walk-held-same-length-23 t)
-    (walk-held-same-length-24 t)
-    (walk-held-returns-4 t)
+    (on-held-at t)
+    on-held.Post
+    (on-held-sub-children t)
+    (on-held-part-children-start t)
+    (on-held-part-children-end t)
+    (on-held-children-requires t)
+    (on-held-add-analyze t)
+    (on-held-analyze-requires t)
+    (on-held-enum-known-first t)
+    (on-held-enum-told t)
+    (on-held-same-length t)
+    (on-held-same-length-2 t)
+    (on-held-same-length-3 t)
+    (on-held-same-length-4 t)
+    (on-held-same-length-5 t)
+    (on-held-same-length-6 t)
+    (on-held-returns t)
+    (on-held-copy-record-requires t)
+    (on-held-same-length-7 t)
+    (on-held-same-length-8 t)
+    (on-held-same-length-9 t)
+    (on-held-same-length-10 t)
+    (on-held-same-length-11 t)
+    (on-held-same-length-12 t)
+    (on-held-returns-2 t)
+    (on-held-analyze-requires-2 t)
+    (on-held-enum-known-second t)
+    (on-held-enum-told-2 t)
+    (on-held-same-length-13 t)
+    (on-held-same-length-14 t)
+    (on-held-same-length-15 t)
+    (on-held-same-length-16 t)
+    (on-held-same-length-17 t)
+    (on-held-same-length-18 t)
+    (on-held-returns-3 t)
+    (on-held-copy-record-requires-2 t)
+    (on-held-same-length-19 t)
+    (on-held-same-length-20 t)
+    (on-held-same-length-21 t)
+    (on-held-same-length-22 t)
+    (on-held-same-length-23 t)
+    (on-held-same-length-24 t)
+    (on-held-returns-4 t)

@@ -12,15 +12,15 @@ use Rattle.joins.proofs.Onward.{ready-opened}
 use Rattle.joins.proofs.Asking.{opened}
 use Rattle.joins.proofs.Returns.{value-unopened, value-stopped, value-ended}
 use Rattle.walkers.proofs.analyze.Reads as analyze
-use Rattle.walkers.proofs.walk_value.Reads as walk-value
-use Rattle.walkers.proofs.+analyze+analyze_function+analyze_obj_members+walk_array+walk_assertions+walk_bind+walk_binds+walk_fields+walk_head+walk_heads+walk_held+walk_item+walk_items+walk_local+walk_object+walk_param+walk_params+walk_plain+walk_value+walk_values.Lts-walk_value as walk-value-lts
+use Rattle.walkers.proofs.on_value.Reads as on-value
+use Rattle.walkers.proofs.+analyze+on_array+on_assertions+on_bind+on_binds+on_fields+on_function+on_head+on_heads+on_held+on_item+on_items+on_local+on_members+on_object+on_param+on_params+on_plain+on_value+on_values.Lts-on_value as on-value-lts
 use Rattle.keeping.proofs.close_value.Reads as close-value-reads
 use Rattle.opening.proofs.head_naming.Reads as head-naming-reads
 use Rattle.walkers.proofs.not_opened.Reads as not-opened-reads
 use Rattle.writing.proofs.open_frame.Reads as open-frame-reads
-use Rattle.walkers.proofs.+analyze+analyze_function+analyze_obj_members+walk_array+walk_assertions+walk_bind+walk_binds+walk_fields+walk_head+walk_heads+walk_held+walk_item+walk_items+walk_local+walk_object+walk_param+walk_params+walk_plain+walk_value+walk_values.Proof.Measures.{analyze-below, walk-value-at}
+use Rattle.walkers.proofs.+analyze+on_array+on_assertions+on_bind+on_binds+on_fields+on_function+on_head+on_heads+on_held+on_item+on_items+on_local+on_members+on_object+on_param+on_params+on_plain+on_value+on_values.Proof.Measures.{analyze-below, on-value-at}
 
-walk-value-open-frame-requires : (t : ℕ) → walk-value-lts.Need-open-frame-requires (
+on-value-open-frame-requires : (t : ℕ) → on-value-lts.Need-open-frame-requires (
   open-frame-reads.Asked,
   open-frame-reads.Learnt,
   not-opened-reads.Asked,
@@ -31,13 +31,13 @@ walk-value-open-frame-requires : (t : ℕ) → walk-value-lts.Need-open-frame-re
   analyze.Post,
   close-value-reads.Asked,
   close-value-reads.Learnt,
-) (walk-value-at t) walk-value.Post
+) (on-value-at t) on-value.Post
 unfolding naming-of
-walk-value-open-frame-requires t c κs =
+on-value-open-frame-requires t c κs =
     let pre· = c .before .before .before .before .before .before .before .before .pre in
     (pre· .1 .0) .fit .frames-long
 
-walk-value-enum-known-opened : (t : ℕ) → walk-value-lts.Need-enum-known-opened (
+on-value-enum-known-opened : (t : ℕ) → on-value-lts.Need-enum-known-opened (
   open-frame-reads.Asked,
   open-frame-reads.Learnt,
   not-opened-reads.Asked,
@@ -48,10 +48,10 @@ walk-value-enum-known-opened : (t : ℕ) → walk-value-lts.Need-enum-known-open
   analyze.Post,
   close-value-reads.Asked,
   close-value-reads.Learnt,
-) (walk-value-at t) walk-value.Post
-walk-value-enum-known-opened t c = search needs
+) (on-value-at t) on-value.Post
+on-value-enum-known-opened t c = search needs
 
-walk-value-enum-told : (t : ℕ) → walk-value-lts.Need-enum-told (
+on-value-enum-told : (t : ℕ) → on-value-lts.Need-enum-told (
   open-frame-reads.Asked,
   open-frame-reads.Learnt,
   not-opened-reads.Asked,
@@ -62,10 +62,10 @@ walk-value-enum-told : (t : ℕ) → walk-value-lts.Need-enum-told (
   analyze.Post,
   close-value-reads.Asked,
   close-value-reads.Learnt,
-) (walk-value-at t) walk-value.Post
-walk-value-enum-told t c = search needs
+) (on-value-at t) on-value.Post
+on-value-enum-told t c = search needs
 
-walk-value-not-opened-requires : (t : ℕ) → walk-value-lts.Need-not-opened-requires (
+on-value-not-opened-requires : (t : ℕ) → on-value-lts.Need-not-opened-requires (
   open-frame-reads.Asked,
   open-frame-reads.Learnt,
   not-opened-reads.Asked,
@@ -76,10 +76,10 @@ walk-value-not-opened-requires : (t : ℕ) → walk-value-lts.Need-not-opened-re
   analyze.Post,
   close-value-reads.Asked,
   close-value-reads.Learnt,
-) (walk-value-at t) walk-value.Post
-walk-value-not-opened-requires t c κs = search needs
+) (on-value-at t) on-value.Post
+on-value-not-opened-requires t c κs = search needs
 
-walk-value-same-length : (t : ℕ) → walk-value-lts.Need-same-length (
+on-value-same-length : (t : ℕ) → on-value-lts.Need-same-length (
   open-frame-reads.Asked,
   open-frame-reads.Learnt,
   not-opened-reads.Asked,
@@ -90,10 +90,10 @@ walk-value-same-length : (t : ℕ) → walk-value-lts.Need-same-length (
   analyze.Post,
   close-value-reads.Asked,
   close-value-reads.Learnt,
-) (walk-value-at t) walk-value.Post
-walk-value-same-length t c = c .before .before .before .before .before .open-frame .kept .0
+) (on-value-at t) on-value.Post
+on-value-same-length t c = c .before .before .before .before .before .open-frame .kept .0
 
-walk-value-returns : (t : ℕ) → walk-value-lts.Need-returns (
+on-value-returns : (t : ℕ) → on-value-lts.Need-returns (
   open-frame-reads.Asked,
   open-frame-reads.Learnt,
   not-opened-reads.Asked,
@@ -104,9 +104,9 @@ walk-value-returns : (t : ℕ) → walk-value-lts.Need-returns (
   analyze.Post,
   close-value-reads.Asked,
   close-value-reads.Learnt,
-) (walk-value-at t) walk-value.Post
+) (on-value-at t) on-value.Post
 unfolding naming-of
-walk-value-returns t c =
+on-value-returns t c =
     let args· = c .before .before .before .before .before .before .before .before .before .before .before .before .before .before .args in
     let pre· = c .before .before .before .before .before .before .before .before .before .before .before .before .before .before .pre in
     let open-frame· = c .before .before .before .before .before .open-frame in
@@ -114,7 +114,7 @@ walk-value-returns t c =
     let not-opened· = c .not-opened in
     value-unopened (args· .tree .now) (args· .nest) (args· .head) (args· .at) (pre· .1 .1) (place-of (args· .here)) (opened (open-frame· .ensures) ((pre· .1 .0) .fit)) (enum-told· .given .1) (unopened (not-opened· .ensures) (enum-told· .given .1))
 
-walk-value-head-naming-requires : (t : ℕ) → walk-value-lts.Need-head-naming-requires (
+on-value-head-naming-requires : (t : ℕ) → on-value-lts.Need-head-naming-requires (
   open-frame-reads.Asked,
   open-frame-reads.Learnt,
   not-opened-reads.Asked,
@@ -125,14 +125,14 @@ walk-value-head-naming-requires : (t : ℕ) → walk-value-lts.Need-head-naming-
   analyze.Post,
   close-value-reads.Asked,
   close-value-reads.Learnt,
-) (walk-value-at t) walk-value.Post
+) (on-value-at t) on-value.Post
 unfolding naming-of
-walk-value-head-naming-requires t c κs =
+on-value-head-naming-requires t c κs =
     let args· = c .before .before .before .before .before .before .before .before .before .before .before .before .before .before .before .before .before .before .before .before .args in
     let pre· = c .before .before .before .before .before .before .before .before .before .before .before .before .before .before .before .before .before .before .before .before .pre in
     value-head-fits (args· .tree .now) (args· .nest) (args· .head) (args· .at) (pre· .1 .1)
 
-walk-value-analyze-requires : (t : ℕ) → walk-value-lts.Need-analyze-requires (
+on-value-analyze-requires : (t : ℕ) → on-value-lts.Need-analyze-requires (
   open-frame-reads.Asked,
   open-frame-reads.Learnt,
   not-opened-reads.Asked,
@@ -143,16 +143,16 @@ walk-value-analyze-requires : (t : ℕ) → walk-value-lts.Need-analyze-requires
   analyze.Post,
   close-value-reads.Asked,
   close-value-reads.Learnt,
-) (walk-value-at t) walk-value.Post
+) (on-value-at t) on-value.Post
 unfolding naming-of
-walk-value-analyze-requires t c κs =
+on-value-analyze-requires t c κs =
     let pre· = c .before .before .before .before .before .before .before .before .before .before .before .before .before .before .before .before .before .before .before .before .before .pre in
     let args· = c .before .before .before .before .before .before .before .before .before .before .before .before .before .before .before .before .before .before .before .before .before .args in
     let open-frame· = c .before .before .before .before .before .before .before .before .before .before .before .before .open-frame in
     let opened· = c .before .before .before .before .before .before .before .before .opened in
     (omega (arith, pre· .0), ((ready-opened (args· .at) false (pre· .1 .0) (opened (open-frame· .ensures) ((pre· .1 .0) .fit)) (opened· .given .1)), value-there (args· .tree .now) (args· .nest) (args· .head) (args· .at) (pre· .1 .1)))
 
-walk-value-enum-known-w : (t : ℕ) → walk-value-lts.Need-enum-known-w (
+on-value-enum-known-w : (t : ℕ) → on-value-lts.Need-enum-known-w (
   open-frame-reads.Asked,
   open-frame-reads.Learnt,
   not-opened-reads.Asked,
@@ -163,10 +163,10 @@ walk-value-enum-known-w : (t : ℕ) → walk-value-lts.Need-enum-known-w (
   analyze.Post,
   close-value-reads.Asked,
   close-value-reads.Learnt,
-) (walk-value-at t) walk-value.Post
-walk-value-enum-known-w t c = search needs
+) (on-value-at t) on-value.Post
+on-value-enum-known-w t c = search needs
 
-walk-value-enum-told-2 : (t : ℕ) → walk-value-lts.Need-enum-told-2 (
+on-value-enum-told-2 : (t : ℕ) → on-value-lts.Need-enum-told-2 (
   open-frame-reads.Asked,
   open-frame-reads.Learnt,
   not-opened-reads.Asked,
@@ -177,10 +177,10 @@ walk-value-enum-told-2 : (t : ℕ) → walk-value-lts.Need-enum-told-2 (
   analyze.Post,
   close-value-reads.Asked,
   close-value-reads.Learnt,
-) (walk-value-at t) walk-value.Post
-walk-value-enum-told-2 t c = search needs
+) (on-value-at t) on-value.Post
+on-value-enum-told-2 t c = search needs
 
-walk-value-same-length-2 : (t : ℕ) → walk-value-lts.Need-same-length-2 (
+on-value-same-length-2 : (t : ℕ) → on-value-lts.Need-same-length-2 (
   open-frame-reads.Asked,
   open-frame-reads.Learnt,
   not-opened-reads.Asked,
@@ -191,10 +191,10 @@ walk-value-same-length-2 : (t : ℕ) → walk-value-lts.Need-same-length-2 (
   analyze.Post,
   close-value-reads.Asked,
   close-value-reads.Learnt,
-) (walk-value-at t) walk-value.Post
-walk-value-same-length-2 t c = c .before .before .before .before .before .before .before .before .before .before .before .before .before .before .analyze .kept .1 .0
+) (on-value-at t) on-value.Post
+on-value-same-length-2 t c = c .before .before .before .before .before .before .before .before .before .before .before .before .before .before .analyze .kept .1 .0
 
-walk-value-same-length-3 : (t : ℕ) → walk-value-lts.Need-same-length-3 (
+on-value-same-length-3 : (t : ℕ) → on-value-lts.Need-same-length-3 (
   open-frame-reads.Asked,
   open-frame-reads.Learnt,
   not-opened-reads.Asked,
@@ -205,10 +205,10 @@ walk-value-same-length-3 : (t : ℕ) → walk-value-lts.Need-same-length-3 (
   analyze.Post,
   close-value-reads.Asked,
   close-value-reads.Learnt,
-) (walk-value-at t) walk-value.Post
-walk-value-same-length-3 t c = c .before .before .before .before .before .before .before .before .before .before .before .before .before .before .analyze .kept .1 .1 .0
+) (on-value-at t) on-value.Post
+on-value-same-length-3 t c = c .before .before .before .before .before .before .before .before .before .before .before .before .before .before .analyze .kept .1 .1 .0
 
-walk-value-same-length-4 : (t : ℕ) → walk-value-lts.Need-same-length-4 (
+on-value-same-length-4 : (t : ℕ) → on-value-lts.Need-same-length-4 (
   open-frame-reads.Asked,
   open-frame-reads.Learnt,
   not-opened-reads.Asked,
@@ -219,10 +219,10 @@ walk-value-same-length-4 : (t : ℕ) → walk-value-lts.Need-same-length-4 (
   analyze.Post,
   close-value-reads.Asked,
   close-value-reads.Learnt,
-) (walk-value-at t) walk-value.Post
-walk-value-same-length-4 t c = c .before .before .before .before .before .before .before .before .before .before .before .before .before .before .analyze .kept .1 .1 .1 .0
+) (on-value-at t) on-value.Post
+on-value-same-length-4 t c = c .before .before .before .before .before .before .before .before .before .before .before .before .before .before .analyze .kept .1 .1 .1 .0
 
-walk-value-same-length-5 : (t : ℕ) → walk-value-lts.Need-same-length-5 (
+on-value-same-length-5 : (t : ℕ) → on-value-lts.Need-same-length-5 (
   open-frame-reads.Asked,
   open-frame-reads.Learnt,
   not-opened-reads.Asked,
@@ -233,10 +233,10 @@ walk-value-same-length-5 : (t : ℕ) → walk-value-lts.Need-same-length-5 (
   analyze.Post,
   close-value-reads.Asked,
   close-value-reads.Learnt,
-) (walk-value-at t) walk-value.Post
-walk-value-same-length-5 t c = c .before .before .before .before .before .before .before .before .before .before .before .before .before .before .analyze .kept .1 .1 .1 .1 .0 ∙ c .before .before .before .before .before .before .before .before .before .before .before .before .before .before .before .before .before .before .before .before .before .before .before .before .before .before .before .open-frame .kept .0
+) (on-value-at t) on-value.Post
+on-value-same-length-5 t c = c .before .before .before .before .before .before .before .before .before .before .before .before .before .before .analyze .kept .1 .1 .1 .1 .0 ∙ c .before .before .before .before .before .before .before .before .before .before .before .before .before .before .before .before .before .before .before .before .before .before .before .before .before .before .before .open-frame .kept .0
 
-walk-value-same-length-6 : (t : ℕ) → walk-value-lts.Need-same-length-6 (
+on-value-same-length-6 : (t : ℕ) → on-value-lts.Need-same-length-6 (
   open-frame-reads.Asked,
   open-frame-reads.Learnt,
   not-opened-reads.Asked,
@@ -247,10 +247,10 @@ walk-value-same-length-6 : (t : ℕ) → walk-value-lts.Need-same-length-6 (
   analyze.Post,
   close-value-reads.Asked,
   close-value-reads.Learnt,
-) (walk-value-at t) walk-value.Post
-walk-value-same-length-6 t c = c .before .before .before .before .before .before .before .before .before .before .before .before .before .before .analyze .kept .1 .1 .1 .1 .1 .0
+) (on-value-at t) on-value.Post
+on-value-same-length-6 t c = c .before .before .before .before .before .before .before .before .before .before .before .before .before .before .analyze .kept .1 .1 .1 .1 .1 .0
 
-walk-value-same-length-7 : (t : ℕ) → walk-value-lts.Need-same-length-7 (
+on-value-same-length-7 : (t : ℕ) → on-value-lts.Need-same-length-7 (
   open-frame-reads.Asked,
   open-frame-reads.Learnt,
   not-opened-reads.Asked,
@@ -261,10 +261,10 @@ walk-value-same-length-7 : (t : ℕ) → walk-value-lts.Need-same-length-7 (
   analyze.Post,
   close-value-reads.Asked,
   close-value-reads.Learnt,
-) (walk-value-at t) walk-value.Post
-walk-value-same-length-7 t c = c .before .before .before .before .before .before .before .before .before .before .before .before .before .before .analyze .kept .1 .1 .1 .1 .1 .1 .0
+) (on-value-at t) on-value.Post
+on-value-same-length-7 t c = c .before .before .before .before .before .before .before .before .before .before .before .before .before .before .analyze .kept .1 .1 .1 .1 .1 .1 .0
 
-walk-value-returns-2 : (t : ℕ) → walk-value-lts.Need-returns-2 (
+on-value-returns-2 : (t : ℕ) → on-value-lts.Need-returns-2 (
   open-frame-reads.Asked,
   open-frame-reads.Learnt,
   not-opened-reads.Asked,
@@ -275,9 +275,9 @@ walk-value-returns-2 : (t : ℕ) → walk-value-lts.Need-returns-2 (
   analyze.Post,
   close-value-reads.Asked,
   close-value-reads.Learnt,
-) (walk-value-at t) walk-value.Post
+) (on-value-at t) on-value.Post
 unfolding naming-of
-walk-value-returns-2 t c =
+on-value-returns-2 t c =
     let args· = c .before .before .before .before .before .before .before .before .before .before .before .before .before .before .before .before .before .before .before .before .before .before .before .before .before .before .before .before .before .before .before .before .before .before .before .before .args in
     let pre· = c .before .before .before .before .before .before .before .before .before .before .before .before .before .before .before .before .before .before .before .before .before .before .before .before .before .before .before .before .before .before .before .before .before .before .before .before .pre in
     let open-frame· = c .before .before .before .before .before .before .before .before .before .before .before .before .before .before .before .before .before .before .before .before .before .before .before .before .before .before .before .open-frame in
@@ -287,7 +287,7 @@ walk-value-returns-2 t c =
     let enum-told2· = c .enum-told2 in
     value-stopped (args· .tree .now) (args· .nest) (args· .head) (args· .at) (pre· .1 .1) (place-of (args· .here)) (opened (open-frame· .ensures) ((pre· .1 .0) .fit)) (opened· .given .1) (record { out = refl; diagnostics = refl }) (head-naming· .ensures) (analyze· .ensures) (enum-told2· .given .1)
 
-walk-value-close-value-requires : (t : ℕ) → walk-value-lts.Need-close-value-requires (
+on-value-close-value-requires : (t : ℕ) → on-value-lts.Need-close-value-requires (
   open-frame-reads.Asked,
   open-frame-reads.Learnt,
   not-opened-reads.Asked,
@@ -298,14 +298,14 @@ walk-value-close-value-requires : (t : ℕ) → walk-value-lts.Need-close-value-
   analyze.Post,
   close-value-reads.Asked,
   close-value-reads.Learnt,
-) (walk-value-at t) walk-value.Post
+) (on-value-at t) on-value.Post
 unfolding naming-of
-walk-value-close-value-requires t c κs =
+on-value-close-value-requires t c κs =
     let analyze· = c .before .before .before .before .before .before .before .before .before .before .before .before .before .before .before .before .before .before .analyze in
     let w· = c .before .before .before .before .w in
     (went-fit (analyze· .ensures) (w· .given .1)) .frames-kept
 
-walk-value-same-length-8 : (t : ℕ) → walk-value-lts.Need-same-length-8 (
+on-value-same-length-8 : (t : ℕ) → on-value-lts.Need-same-length-8 (
   open-frame-reads.Asked,
   open-frame-reads.Learnt,
   not-opened-reads.Asked,
@@ -316,10 +316,10 @@ walk-value-same-length-8 : (t : ℕ) → walk-value-lts.Need-same-length-8 (
   analyze.Post,
   close-value-reads.Asked,
   close-value-reads.Learnt,
-) (walk-value-at t) walk-value.Post
-walk-value-same-length-8 t c = c .before .before .before .before .close-value .kept .0 ∙ c .before .before .before .before .before .before .before .before .before .before .before .before .before .before .before .before .before .before .before .before .before .before .before .analyze .kept .1 .0
+) (on-value-at t) on-value.Post
+on-value-same-length-8 t c = c .before .before .before .before .close-value .kept .0 ∙ c .before .before .before .before .before .before .before .before .before .before .before .before .before .before .before .before .before .before .before .before .before .before .before .analyze .kept .1 .0
 
-walk-value-same-length-9 : (t : ℕ) → walk-value-lts.Need-same-length-9 (
+on-value-same-length-9 : (t : ℕ) → on-value-lts.Need-same-length-9 (
   open-frame-reads.Asked,
   open-frame-reads.Learnt,
   not-opened-reads.Asked,
@@ -330,10 +330,10 @@ walk-value-same-length-9 : (t : ℕ) → walk-value-lts.Need-same-length-9 (
   analyze.Post,
   close-value-reads.Asked,
   close-value-reads.Learnt,
-) (walk-value-at t) walk-value.Post
-walk-value-same-length-9 t c = c .before .before .before .before .before .before .before .before .before .before .before .before .before .before .before .before .before .before .before .before .before .before .before .analyze .kept .1 .1 .0
+) (on-value-at t) on-value.Post
+on-value-same-length-9 t c = c .before .before .before .before .before .before .before .before .before .before .before .before .before .before .before .before .before .before .before .before .before .before .before .analyze .kept .1 .1 .0
 
-walk-value-same-length-10 : (t : ℕ) → walk-value-lts.Need-same-length-10 (
+on-value-same-length-10 : (t : ℕ) → on-value-lts.Need-same-length-10 (
   open-frame-reads.Asked,
   open-frame-reads.Learnt,
   not-opened-reads.Asked,
@@ -344,10 +344,10 @@ walk-value-same-length-10 : (t : ℕ) → walk-value-lts.Need-same-length-10 (
   analyze.Post,
   close-value-reads.Asked,
   close-value-reads.Learnt,
-) (walk-value-at t) walk-value.Post
-walk-value-same-length-10 t c = c .before .before .before .before .before .before .before .before .before .before .before .before .before .before .before .before .before .before .before .before .before .before .before .analyze .kept .1 .1 .1 .0
+) (on-value-at t) on-value.Post
+on-value-same-length-10 t c = c .before .before .before .before .before .before .before .before .before .before .before .before .before .before .before .before .before .before .before .before .before .before .before .analyze .kept .1 .1 .1 .0
 
-walk-value-same-length-11 : (t : ℕ) → walk-value-lts.Need-same-length-11 (
+on-value-same-length-11 : (t : ℕ) → on-value-lts.Need-same-length-11 (
   open-frame-reads.Asked,
   open-frame-reads.Learnt,
   not-opened-reads.Asked,
@@ -358,10 +358,10 @@ walk-value-same-length-11 : (t : ℕ) → walk-value-lts.Need-same-length-11 (
   analyze.Post,
   close-value-reads.Asked,
   close-value-reads.Learnt,
-) (walk-value-at t) walk-value.Post
-walk-value-same-length-11 t c = c .before .before .before .before .before .before .before .before .before .before .before .before .before .before .before .before .before .before .before .before .before .before .before .analyze .kept .1 .1 .1 .1 .0 ∙ c .before .before .before .before .before .before .before .before .before .before .before .before .before .before .before .before .before .before .before .before .before .before .before .before .before .before .before .before .before .before .before .before .before .before .before .before .open-frame .kept .0
+) (on-value-at t) on-value.Post
+on-value-same-length-11 t c = c .before .before .before .before .before .before .before .before .before .before .before .before .before .before .before .before .before .before .before .before .before .before .before .analyze .kept .1 .1 .1 .1 .0 ∙ c .before .before .before .before .before .before .before .before .before .before .before .before .before .before .before .before .before .before .before .before .before .before .before .before .before .before .before .before .before .before .before .before .before .before .before .before .open-frame .kept .0
 
-walk-value-same-length-12 : (t : ℕ) → walk-value-lts.Need-same-length-12 (
+on-value-same-length-12 : (t : ℕ) → on-value-lts.Need-same-length-12 (
   open-frame-reads.Asked,
   open-frame-reads.Learnt,
   not-opened-reads.Asked,
@@ -372,10 +372,10 @@ walk-value-same-length-12 : (t : ℕ) → walk-value-lts.Need-same-length-12 (
   analyze.Post,
   close-value-reads.Asked,
   close-value-reads.Learnt,
-) (walk-value-at t) walk-value.Post
-walk-value-same-length-12 t c = c .before .before .before .before .close-value .kept .1 .1 .0 ∙ c .before .before .before .before .before .before .before .before .before .before .before .before .before .before .before .before .before .before .before .before .before .before .before .analyze .kept .1 .1 .1 .1 .1 .0
+) (on-value-at t) on-value.Post
+on-value-same-length-12 t c = c .before .before .before .before .close-value .kept .1 .1 .0 ∙ c .before .before .before .before .before .before .before .before .before .before .before .before .before .before .before .before .before .before .before .before .before .before .before .analyze .kept .1 .1 .1 .1 .1 .0
 
-walk-value-same-length-13 : (t : ℕ) → walk-value-lts.Need-same-length-13 (
+on-value-same-length-13 : (t : ℕ) → on-value-lts.Need-same-length-13 (
   open-frame-reads.Asked,
   open-frame-reads.Learnt,
   not-opened-reads.Asked,
@@ -386,10 +386,10 @@ walk-value-same-length-13 : (t : ℕ) → walk-value-lts.Need-same-length-13 (
   analyze.Post,
   close-value-reads.Asked,
   close-value-reads.Learnt,
-) (walk-value-at t) walk-value.Post
-walk-value-same-length-13 t c = c .before .before .before .before .before .before .before .before .before .before .before .before .before .before .before .before .before .before .before .before .before .before .before .analyze .kept .1 .1 .1 .1 .1 .1 .0
+) (on-value-at t) on-value.Post
+on-value-same-length-13 t c = c .before .before .before .before .before .before .before .before .before .before .before .before .before .before .before .before .before .before .before .before .before .before .before .analyze .kept .1 .1 .1 .1 .1 .1 .0
 
-walk-value-returns-3 : (t : ℕ) → walk-value-lts.Need-returns-3 (
+on-value-returns-3 : (t : ℕ) → on-value-lts.Need-returns-3 (
   open-frame-reads.Asked,
   open-frame-reads.Learnt,
   not-opened-reads.Asked,
@@ -400,9 +400,9 @@ walk-value-returns-3 : (t : ℕ) → walk-value-lts.Need-returns-3 (
   analyze.Post,
   close-value-reads.Asked,
   close-value-reads.Learnt,
-) (walk-value-at t) walk-value.Post
+) (on-value-at t) on-value.Post
 unfolding naming-of
-walk-value-returns-3 t c =
+on-value-returns-3 t c =
     let args· = c .before .before .before .before .before .before .before .before .before .before .before .before .before .before .before .before .before .before .before .before .before .before .before .before .before .before .before .before .before .before .before .before .before .before .before .before .before .before .before .before .before .before .before .before .before .args in
     let pre· = c .before .before .before .before .before .before .before .before .before .before .before .before .before .before .before .before .before .before .before .before .before .before .before .before .before .before .before .before .before .before .before .before .before .before .before .before .before .before .before .before .before .before .before .before .before .pre in
     let open-frame· = c .before .before .before .before .before .before .before .before .before .before .before .before .before .before .before .before .before .before .before .before .before .before .before .before .before .before .before .before .before .before .before .before .before .before .before .before .open-frame in
@@ -413,7 +413,7 @@ walk-value-returns-3 t c =
     let close-value· = c .before .before .before .before .close-value in
     value-ended (args· .tree .now) (args· .nest) (args· .head) (args· .at) (pre· .1 .1) (place-of (args· .here)) (opened (open-frame· .ensures) ((pre· .1 .0) .fit)) (opened· .given .1) (record { out = refl; diagnostics = refl }) (head-naming· .ensures) (analyze· .ensures) (w· .given .1) (record { out = analyze· .kept .1 .0; diagnostics = analyze· .kept .1 .1 .0 }) (close-value· .ensures .walks _ _ _ _ (went-fit (analyze· .ensures) (w· .given .1)))
 
-pub walk-value-met : {M : Type 1} (t : ℕ) → walk-value-lts.Closed (
+pub on-value-met : {M : Type 1} (t : ℕ) → on-value-lts.Closed (
   open-frame-reads.Asked,
   open-frame-reads.Learnt,
   not-opened-reads.Asked,
@@ -424,8 +424,8 @@ pub walk-value-met : {M : Type 1} (t : ℕ) → walk-value-lts.Closed (
   analyze.Post,
   close-value-reads.Asked,
   close-value-reads.Learnt,
-) (walk-value-at t) walk-value.Post M
-walk-value-met t = walk-value-lts.spec (
+) (on-value-at t) on-value.Post M
+on-value-met t = on-value-lts.spec (
   open-frame-reads.Asked,
   open-frame-reads.Learnt,
   not-opened-reads.Asked,
@@ -437,30 +437,30 @@ walk-value-met t = walk-value-lts.spec (
   close-value-reads.Asked,
   close-value-reads.Learnt,
 )
-    (walk-value-at t)
-    walk-value.Post
-    (walk-value-open-frame-requires t)
-    (walk-value-enum-known-opened t)
-    (walk-value-enum-told t)
-    (walk-value-not-opened-requires t)
-    (walk-value-same-length t)
-    (walk-value-returns t)
-    (walk-value-head-naming-requires t)
-    (walk-value-analyze-requires t)
-    (walk-value-enum-known-w t)
-    (walk-value-enum-told-2 t)
-    (walk-value-same-length-2 t)
-    (walk-value-same-length-3 t)
-    (walk-value-same-length-4 t)
-    (walk-value-same-length-5 t)
-    (walk-value-same-length-6 t)
-    (walk-value-same-length-7 t)
-    (walk-value-returns-2 t)
-    (walk-value-close-value-requires t)
-    (walk-value-same-length-8 t)
-    (walk-value-same-length-9 t)
-    (walk-value-same-length-10 t)
-    (walk-value-same-length-11 t)
-    (walk-value-same-length-12 t)
-    (walk-value-same-length-13 t)
-    (walk-value-returns-3 t)
+    (on-value-at t)
+    on-value.Post
+    (on-value-open-frame-requires t)
+    (on-value-enum-known-opened t)
+    (on-value-enum-told t)
+    (on-value-not-opened-requires t)
+    (on-value-same-length t)
+    (on-value-returns t)
+    (on-value-head-naming-requires t)
+    (on-value-analyze-requires t)
+    (on-value-enum-known-w t)
+    (on-value-enum-told-2 t)
+    (on-value-same-length-2 t)
+    (on-value-same-length-3 t)
+    (on-value-same-length-4 t)
+    (on-value-same-length-5 t)
+    (on-value-same-length-6 t)
+    (on-value-same-length-7 t)
+    (on-value-returns-2 t)
+    (on-value-close-value-requires t)
+    (on-value-same-length-8 t)
+    (on-value-same-length-9 t)
+    (on-value-same-length-10 t)
+    (on-value-same-length-11 t)
+    (on-value-same-length-12 t)
+    (on-value-same-length-13 t)
+    (on-value-returns-3 t)

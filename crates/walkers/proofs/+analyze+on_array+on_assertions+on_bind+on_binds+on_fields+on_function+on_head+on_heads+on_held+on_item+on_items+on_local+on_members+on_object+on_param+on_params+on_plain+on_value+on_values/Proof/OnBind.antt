@@ -14,16 +14,16 @@ use Rattle.joins.proofs.Onward.{ready-value, longer-value}
 use Rattle.joins.proofs.Asking.{opened, written-counted}
 use Rattle.joins.proofs.Returns.{bind-unopened, bind-stopped, bind-ended}
 use Rattle.walkers.proofs.analyze.Reads as analyze
-use Rattle.walkers.proofs.walk_bind.Reads as walk-bind
-use Rattle.walkers.proofs.+analyze+analyze_function+analyze_obj_members+walk_array+walk_assertions+walk_bind+walk_binds+walk_fields+walk_head+walk_heads+walk_held+walk_item+walk_items+walk_local+walk_object+walk_param+walk_params+walk_plain+walk_value+walk_values.Lts-walk_bind as walk-bind-lts
+use Rattle.walkers.proofs.on_bind.Reads as on-bind
+use Rattle.walkers.proofs.+analyze+on_array+on_assertions+on_bind+on_binds+on_fields+on_function+on_head+on_heads+on_held+on_item+on_items+on_local+on_members+on_object+on_param+on_params+on_plain+on_value+on_values.Lts-on_bind as on-bind-lts
 use Rattle.keeping.proofs.close_spec.Reads as close-spec-reads
 use Rattle.opening.proofs.bind_naming.Reads as bind-naming-reads
 use Rattle.opening.proofs.open_value.Reads as open-value-reads
 use Rattle.walkers.proofs.no_spec.Reads as no-spec-reads
 use Rattle.walkers.proofs.no_value.Reads as no-value-reads
-use Rattle.walkers.proofs.+analyze+analyze_function+analyze_obj_members+walk_array+walk_assertions+walk_bind+walk_binds+walk_fields+walk_head+walk_heads+walk_held+walk_item+walk_items+walk_local+walk_object+walk_param+walk_params+walk_plain+walk_value+walk_values.Proof.Measures.{analyze-below, walk-bind-at}
+use Rattle.walkers.proofs.+analyze+on_array+on_assertions+on_bind+on_binds+on_fields+on_function+on_head+on_heads+on_held+on_item+on_items+on_local+on_members+on_object+on_param+on_params+on_plain+on_value+on_values.Proof.Measures.{analyze-below, on-bind-at}
 
-walk-bind-open-value-requires : (t : ℕ) → walk-bind-lts.Need-open-value-requires (
+on-bind-open-value-requires : (t : ℕ) → on-bind-lts.Need-open-value-requires (
   open-value-reads.Asked,
   open-value-reads.Learnt,
   no-value-reads.Asked,
@@ -36,13 +36,13 @@ walk-bind-open-value-requires : (t : ℕ) → walk-bind-lts.Need-open-value-requ
   no-spec-reads.Learnt,
   close-spec-reads.Asked,
   close-spec-reads.Learnt,
-) (walk-bind-at t) walk-bind.Post
+) (on-bind-at t) on-bind.Post
 unfolding naming-of
-walk-bind-open-value-requires t c κs =
+on-bind-open-value-requires t c κs =
     let pre· = c .before .before .before .before .before .before .before .before .pre in
     (pre· .1 .0) .fit .frames-long
 
-walk-bind-enum-known-opened : (t : ℕ) → walk-bind-lts.Need-enum-known-opened (
+on-bind-enum-known-opened : (t : ℕ) → on-bind-lts.Need-enum-known-opened (
   open-value-reads.Asked,
   open-value-reads.Learnt,
   no-value-reads.Asked,
@@ -55,10 +55,10 @@ walk-bind-enum-known-opened : (t : ℕ) → walk-bind-lts.Need-enum-known-opened
   no-spec-reads.Learnt,
   close-spec-reads.Asked,
   close-spec-reads.Learnt,
-) (walk-bind-at t) walk-bind.Post
-walk-bind-enum-known-opened t c = search needs
+) (on-bind-at t) on-bind.Post
+on-bind-enum-known-opened t c = search needs
 
-walk-bind-enum-told : (t : ℕ) → walk-bind-lts.Need-enum-told (
+on-bind-enum-told : (t : ℕ) → on-bind-lts.Need-enum-told (
   open-value-reads.Asked,
   open-value-reads.Learnt,
   no-value-reads.Asked,
@@ -71,10 +71,10 @@ walk-bind-enum-told : (t : ℕ) → walk-bind-lts.Need-enum-told (
   no-spec-reads.Learnt,
   close-spec-reads.Asked,
   close-spec-reads.Learnt,
-) (walk-bind-at t) walk-bind.Post
-walk-bind-enum-told t c = search needs
+) (on-bind-at t) on-bind.Post
+on-bind-enum-told t c = search needs
 
-walk-bind-no-value-requires : (t : ℕ) → walk-bind-lts.Need-no-value-requires (
+on-bind-no-value-requires : (t : ℕ) → on-bind-lts.Need-no-value-requires (
   open-value-reads.Asked,
   open-value-reads.Learnt,
   no-value-reads.Asked,
@@ -87,10 +87,10 @@ walk-bind-no-value-requires : (t : ℕ) → walk-bind-lts.Need-no-value-requires
   no-spec-reads.Learnt,
   close-spec-reads.Asked,
   close-spec-reads.Learnt,
-) (walk-bind-at t) walk-bind.Post
-walk-bind-no-value-requires t c κs = search needs
+) (on-bind-at t) on-bind.Post
+on-bind-no-value-requires t c κs = search needs
 
-walk-bind-same-length : (t : ℕ) → walk-bind-lts.Need-same-length (
+on-bind-same-length : (t : ℕ) → on-bind-lts.Need-same-length (
   open-value-reads.Asked,
   open-value-reads.Learnt,
   no-value-reads.Asked,
@@ -103,10 +103,10 @@ walk-bind-same-length : (t : ℕ) → walk-bind-lts.Need-same-length (
   no-spec-reads.Learnt,
   close-spec-reads.Asked,
   close-spec-reads.Learnt,
-) (walk-bind-at t) walk-bind.Post
-walk-bind-same-length t c = c .before .before .before .before .before .open-value .kept .0
+) (on-bind-at t) on-bind.Post
+on-bind-same-length t c = c .before .before .before .before .before .open-value .kept .0
 
-walk-bind-returns : (t : ℕ) → walk-bind-lts.Need-returns (
+on-bind-returns : (t : ℕ) → on-bind-lts.Need-returns (
   open-value-reads.Asked,
   open-value-reads.Learnt,
   no-value-reads.Asked,
@@ -119,9 +119,9 @@ walk-bind-returns : (t : ℕ) → walk-bind-lts.Need-returns (
   no-spec-reads.Learnt,
   close-spec-reads.Asked,
   close-spec-reads.Learnt,
-) (walk-bind-at t) walk-bind.Post
+) (on-bind-at t) on-bind.Post
 unfolding naming-of
-walk-bind-returns t c =
+on-bind-returns t c =
     let args· = c .before .before .before .before .before .before .before .before .before .before .before .before .before .before .args in
     let pre· = c .before .before .before .before .before .before .before .before .before .before .before .before .before .before .pre in
     let open-value· = c .before .before .before .before .before .open-value in
@@ -129,7 +129,7 @@ walk-bind-returns t c =
     let no-value· = c .no-value in
     bind-unopened (args· .tree .now) (args· .nest) (args· .at) (args· .base) (args· .kept) ((pre· .1 .1) .0) (place-of (args· .here)) (open-value· .ensures .opened _ _ _ _ _ ((pre· .1 .0) .fit)) (enum-told· .given .1) (valueless (no-value· .ensures) (enum-told· .given .1))
 
-walk-bind-add-analyze : (t : ℕ) → walk-bind-lts.Need-add-analyze (
+on-bind-add-analyze : (t : ℕ) → on-bind-lts.Need-add-analyze (
   open-value-reads.Asked,
   open-value-reads.Learnt,
   no-value-reads.Asked,
@@ -142,13 +142,13 @@ walk-bind-add-analyze : (t : ℕ) → walk-bind-lts.Need-add-analyze (
   no-spec-reads.Learnt,
   close-spec-reads.Asked,
   close-spec-reads.Learnt,
-) (walk-bind-at t) walk-bind.Post
-walk-bind-add-analyze t c =
+) (on-bind-at t) on-bind.Post
+on-bind-add-analyze t c =
     let args· = c .before .before .before .before .before .before .before .before .before .before .before .before .before .before .before .before .before .before .before .before .args in
     let pre· = c .before .before .before .before .before .before .before .before .before .before .before .before .before .before .before .before .before .before .before .before .pre in
     omega (arith, (bind-fits (args· .tree .now) (args· .nest) (args· .at) ((pre· .1 .1) .0)), (pre· .1 .0) .short)
 
-walk-bind-bind-naming-requires : (t : ℕ) → walk-bind-lts.Need-bind-naming-requires (
+on-bind-bind-naming-requires : (t : ℕ) → on-bind-lts.Need-bind-naming-requires (
   open-value-reads.Asked,
   open-value-reads.Learnt,
   no-value-reads.Asked,
@@ -161,14 +161,14 @@ walk-bind-bind-naming-requires : (t : ℕ) → walk-bind-lts.Need-bind-naming-re
   no-spec-reads.Learnt,
   close-spec-reads.Asked,
   close-spec-reads.Learnt,
-) (walk-bind-at t) walk-bind.Post
+) (on-bind-at t) on-bind.Post
 unfolding naming-of
-walk-bind-bind-naming-requires t c κs =
+on-bind-bind-naming-requires t c κs =
     let args· = c .before .before .before .before .before .before .before .before .before .before .before .before .before .before .before .before .before .before .before .before .args in
     let pre· = c .before .before .before .before .before .before .before .before .before .before .before .before .before .before .before .before .before .before .before .before .pre in
     (bind-fits (args· .tree .now) (args· .nest) (args· .at) ((pre· .1 .1) .0))
 
-walk-bind-analyze-requires : (t : ℕ) → walk-bind-lts.Need-analyze-requires (
+on-bind-analyze-requires : (t : ℕ) → on-bind-lts.Need-analyze-requires (
   open-value-reads.Asked,
   open-value-reads.Learnt,
   no-value-reads.Asked,
@@ -181,16 +181,16 @@ walk-bind-analyze-requires : (t : ℕ) → walk-bind-lts.Need-analyze-requires (
   no-spec-reads.Learnt,
   close-spec-reads.Asked,
   close-spec-reads.Learnt,
-) (walk-bind-at t) walk-bind.Post
+) (on-bind-at t) on-bind.Post
 unfolding naming-of
-walk-bind-analyze-requires t c κs =
+on-bind-analyze-requires t c κs =
     let pre· = c .before .before .before .before .before .before .before .before .before .before .before .before .before .before .before .before .before .before .before .before .before .pre in
     let args· = c .before .before .before .before .before .before .before .before .before .before .before .before .before .before .before .before .before .before .before .before .before .args in
     let open-value· = c .before .before .before .before .before .before .before .before .before .before .before .before .open-value in
     let opened· = c .before .before .before .before .before .before .before .before .opened in
     (omega (arith, pre· .0), ((ready-on (omega arith) (omega arith) (ready-value (args· .at) (pre· .1 .0) (open-value· .ensures .opened _ _ _ _ _ ((pre· .1 .0) .fit)) (opened· .given .1))), bind-value (args· .tree .now) (args· .nest) (args· .at) ((pre· .1 .1) .0)))
 
-walk-bind-enum-known-w : (t : ℕ) → walk-bind-lts.Need-enum-known-w (
+on-bind-enum-known-w : (t : ℕ) → on-bind-lts.Need-enum-known-w (
   open-value-reads.Asked,
   open-value-reads.Learnt,
   no-value-reads.Asked,
@@ -203,10 +203,10 @@ walk-bind-enum-known-w : (t : ℕ) → walk-bind-lts.Need-enum-known-w (
   no-spec-reads.Learnt,
   close-spec-reads.Asked,
   close-spec-reads.Learnt,
-) (walk-bind-at t) walk-bind.Post
-walk-bind-enum-known-w t c = search needs
+) (on-bind-at t) on-bind.Post
+on-bind-enum-known-w t c = search needs
 
-walk-bind-enum-told-2 : (t : ℕ) → walk-bind-lts.Need-enum-told-2 (
+on-bind-enum-told-2 : (t : ℕ) → on-bind-lts.Need-enum-told-2 (
   open-value-reads.Asked,
   open-value-reads.Learnt,
   no-value-reads.Asked,
@@ -219,10 +219,10 @@ walk-bind-enum-told-2 : (t : ℕ) → walk-bind-lts.Need-enum-told-2 (
   no-spec-reads.Learnt,
   close-spec-reads.Asked,
   close-spec-reads.Learnt,
-) (walk-bind-at t) walk-bind.Post
-walk-bind-enum-told-2 t c = search needs
+) (on-bind-at t) on-bind.Post
+on-bind-enum-told-2 t c = search needs
 
-walk-bind-no-spec-requires : (t : ℕ) → walk-bind-lts.Need-no-spec-requires (
+on-bind-no-spec-requires : (t : ℕ) → on-bind-lts.Need-no-spec-requires (
   open-value-reads.Asked,
   open-value-reads.Learnt,
   no-value-reads.Asked,
@@ -235,10 +235,10 @@ walk-bind-no-spec-requires : (t : ℕ) → walk-bind-lts.Need-no-spec-requires (
   no-spec-reads.Learnt,
   close-spec-reads.Asked,
   close-spec-reads.Learnt,
-) (walk-bind-at t) walk-bind.Post
-walk-bind-no-spec-requires t c κs = search needs
+) (on-bind-at t) on-bind.Post
+on-bind-no-spec-requires t c κs = search needs
 
-walk-bind-same-length-2 : (t : ℕ) → walk-bind-lts.Need-same-length-2 (
+on-bind-same-length-2 : (t : ℕ) → on-bind-lts.Need-same-length-2 (
   open-value-reads.Asked,
   open-value-reads.Learnt,
   no-value-reads.Asked,
@@ -251,10 +251,10 @@ walk-bind-same-length-2 : (t : ℕ) → walk-bind-lts.Need-same-length-2 (
   no-spec-reads.Learnt,
   close-spec-reads.Asked,
   close-spec-reads.Learnt,
-) (walk-bind-at t) walk-bind.Post
-walk-bind-same-length-2 t c = c .before .before .before .before .before .before .before .before .before .before .before .before .before .before .before .analyze .kept .1 .0
+) (on-bind-at t) on-bind.Post
+on-bind-same-length-2 t c = c .before .before .before .before .before .before .before .before .before .before .before .before .before .before .before .analyze .kept .1 .0
 
-walk-bind-same-length-3 : (t : ℕ) → walk-bind-lts.Need-same-length-3 (
+on-bind-same-length-3 : (t : ℕ) → on-bind-lts.Need-same-length-3 (
   open-value-reads.Asked,
   open-value-reads.Learnt,
   no-value-reads.Asked,
@@ -267,10 +267,10 @@ walk-bind-same-length-3 : (t : ℕ) → walk-bind-lts.Need-same-length-3 (
   no-spec-reads.Learnt,
   close-spec-reads.Asked,
   close-spec-reads.Learnt,
-) (walk-bind-at t) walk-bind.Post
-walk-bind-same-length-3 t c = c .before .before .before .before .before .before .before .before .before .before .before .before .before .before .before .analyze .kept .1 .1 .0
+) (on-bind-at t) on-bind.Post
+on-bind-same-length-3 t c = c .before .before .before .before .before .before .before .before .before .before .before .before .before .before .before .analyze .kept .1 .1 .0
 
-walk-bind-same-length-4 : (t : ℕ) → walk-bind-lts.Need-same-length-4 (
+on-bind-same-length-4 : (t : ℕ) → on-bind-lts.Need-same-length-4 (
   open-value-reads.Asked,
   open-value-reads.Learnt,
   no-value-reads.Asked,
@@ -283,10 +283,10 @@ walk-bind-same-length-4 : (t : ℕ) → walk-bind-lts.Need-same-length-4 (
   no-spec-reads.Learnt,
   close-spec-reads.Asked,
   close-spec-reads.Learnt,
-) (walk-bind-at t) walk-bind.Post
-walk-bind-same-length-4 t c = c .before .before .before .before .before .before .before .before .before .before .before .before .before .before .before .analyze .kept .1 .1 .1 .0
+) (on-bind-at t) on-bind.Post
+on-bind-same-length-4 t c = c .before .before .before .before .before .before .before .before .before .before .before .before .before .before .before .analyze .kept .1 .1 .1 .0
 
-walk-bind-same-length-5 : (t : ℕ) → walk-bind-lts.Need-same-length-5 (
+on-bind-same-length-5 : (t : ℕ) → on-bind-lts.Need-same-length-5 (
   open-value-reads.Asked,
   open-value-reads.Learnt,
   no-value-reads.Asked,
@@ -299,10 +299,10 @@ walk-bind-same-length-5 : (t : ℕ) → walk-bind-lts.Need-same-length-5 (
   no-spec-reads.Learnt,
   close-spec-reads.Asked,
   close-spec-reads.Learnt,
-) (walk-bind-at t) walk-bind.Post
-walk-bind-same-length-5 t c = c .before .before .before .before .before .before .before .before .before .before .before .before .before .before .before .analyze .kept .1 .1 .1 .1 .0 ∙ c .before .before .before .before .before .before .before .before .before .before .before .before .before .before .before .before .before .before .before .before .before .before .before .before .before .before .before .before .open-value .kept .0
+) (on-bind-at t) on-bind.Post
+on-bind-same-length-5 t c = c .before .before .before .before .before .before .before .before .before .before .before .before .before .before .before .analyze .kept .1 .1 .1 .1 .0 ∙ c .before .before .before .before .before .before .before .before .before .before .before .before .before .before .before .before .before .before .before .before .before .before .before .before .before .before .before .before .open-value .kept .0
 
-walk-bind-same-length-6 : (t : ℕ) → walk-bind-lts.Need-same-length-6 (
+on-bind-same-length-6 : (t : ℕ) → on-bind-lts.Need-same-length-6 (
   open-value-reads.Asked,
   open-value-reads.Learnt,
   no-value-reads.Asked,
@@ -315,10 +315,10 @@ walk-bind-same-length-6 : (t : ℕ) → walk-bind-lts.Need-same-length-6 (
   no-spec-reads.Learnt,
   close-spec-reads.Asked,
   close-spec-reads.Learnt,
-) (walk-bind-at t) walk-bind.Post
-walk-bind-same-length-6 t c = c .before .before .before .before .before .before .before .before .before .before .before .before .before .before .before .analyze .kept .1 .1 .1 .1 .1 .0
+) (on-bind-at t) on-bind.Post
+on-bind-same-length-6 t c = c .before .before .before .before .before .before .before .before .before .before .before .before .before .before .before .analyze .kept .1 .1 .1 .1 .1 .0
 
-walk-bind-same-length-7 : (t : ℕ) → walk-bind-lts.Need-same-length-7 (
+on-bind-same-length-7 : (t : ℕ) → on-bind-lts.Need-same-length-7 (
   open-value-reads.Asked,
   open-value-reads.Learnt,
   no-value-reads.Asked,
@@ -331,10 +331,10 @@ walk-bind-same-length-7 : (t : ℕ) → walk-bind-lts.Need-same-length-7 (
   no-spec-reads.Learnt,
   close-spec-reads.Asked,
   close-spec-reads.Learnt,
-) (walk-bind-at t) walk-bind.Post
-walk-bind-same-length-7 t c = c .before .before .before .before .before .before .before .before .before .before .before .before .before .before .before .analyze .kept .1 .1 .1 .1 .1 .1 .0
+) (on-bind-at t) on-bind.Post
+on-bind-same-length-7 t c = c .before .before .before .before .before .before .before .before .before .before .before .before .before .before .before .analyze .kept .1 .1 .1 .1 .1 .1 .0
 
-walk-bind-returns-2 : (t : ℕ) → walk-bind-lts.Need-returns-2 (
+on-bind-returns-2 : (t : ℕ) → on-bind-lts.Need-returns-2 (
   open-value-reads.Asked,
   open-value-reads.Learnt,
   no-value-reads.Asked,
@@ -347,9 +347,9 @@ walk-bind-returns-2 : (t : ℕ) → walk-bind-lts.Need-returns-2 (
   no-spec-reads.Learnt,
   close-spec-reads.Asked,
   close-spec-reads.Learnt,
-) (walk-bind-at t) walk-bind.Post
+) (on-bind-at t) on-bind.Post
 unfolding naming-of
-walk-bind-returns-2 t c =
+on-bind-returns-2 t c =
     let args· = c .before .before .before .before .before .before .before .before .before .before .before .before .before .before .before .before .before .before .before .before .before .before .before .before .before .before .before .before .before .before .before .before .before .before .before .before .before .args in
     let pre· = c .before .before .before .before .before .before .before .before .before .before .before .before .before .before .before .before .before .before .before .before .before .before .before .before .before .before .before .before .before .before .before .before .before .before .before .before .before .pre in
     let open-value· = c .before .before .before .before .before .before .before .before .before .before .before .before .before .before .before .before .before .before .before .before .before .before .before .before .before .before .before .before .open-value in
@@ -360,7 +360,7 @@ walk-bind-returns-2 t c =
     let no-spec· = c .no-spec in
     bind-stopped (args· .tree .now) (args· .nest) (args· .at) (args· .base) (args· .kept) ((pre· .1 .1) .0) (place-of (args· .here)) (open-value· .ensures .opened _ _ _ _ _ ((pre· .1 .0) .fit)) (opened· .given .1) (record { out = refl; diagnostics = refl }) (bind-naming· .ensures) (analyze· .ensures) (enum-told2· .given .1) (specless (no-spec· .ensures) (enum-told2· .given .1))
 
-walk-bind-close-spec-requires : (t : ℕ) → walk-bind-lts.Need-close-spec-requires (
+on-bind-close-spec-requires : (t : ℕ) → on-bind-lts.Need-close-spec-requires (
   open-value-reads.Asked,
   open-value-reads.Learnt,
   no-value-reads.Asked,
@@ -373,9 +373,9 @@ walk-bind-close-spec-requires : (t : ℕ) → walk-bind-lts.Need-close-spec-requ
   no-spec-reads.Learnt,
   close-spec-reads.Asked,
   close-spec-reads.Learnt,
-) (walk-bind-at t) walk-bind.Post
+) (on-bind-at t) on-bind.Post
 unfolding naming-of
-walk-bind-close-spec-requires t c κs =
+on-bind-close-spec-requires t c κs =
     let analyze· = c .before .before .before .before .before .before .before .before .before .before .before .before .before .before .before .before .before .before .before .before .analyze in
     let w· = c .before .before .before .before .before .before .w in
     let pre· = c .before .before .before .before .before .before .before .before .before .before .before .before .before .before .before .before .before .before .before .before .before .before .before .before .before .before .before .before .before .before .before .before .before .before .before .before .before .before .before .before .before .before .pre in
@@ -384,7 +384,7 @@ walk-bind-close-spec-requires t c κs =
     let opened· = c .before .before .before .before .before .before .before .before .before .before .before .before .before .before .before .before .before .before .before .before .before .before .before .before .before .before .before .before .before .opened in
     (let f = (went-fit (analyze· .ensures) (w· .given .1)) in ((omega (arith, f .locals-long, f .few-locals), omega (arith, f .frames-long, f .few-frames), f .references-long, f .few-references, f .first-there), omega (arith, (pre· .1 .1) .1, (pre· .1 .1) .2), longer-value (args· .tree .now) (args· .nest) _ (args· .at) _ (place-of (args· .here)) ((pre· .1 .0) .fit) (open-value· .ensures .opened _ _ _ _ _ ((pre· .1 .0) .fit)) (opened· .given .1) (analyze· .ensures) (w· .given .1), f .out-long, f .frames-kept))
 
-walk-bind-same-length-8 : (t : ℕ) → walk-bind-lts.Need-same-length-8 (
+on-bind-same-length-8 : (t : ℕ) → on-bind-lts.Need-same-length-8 (
   open-value-reads.Asked,
   open-value-reads.Learnt,
   no-value-reads.Asked,
@@ -397,10 +397,10 @@ walk-bind-same-length-8 : (t : ℕ) → walk-bind-lts.Need-same-length-8 (
   no-spec-reads.Learnt,
   close-spec-reads.Asked,
   close-spec-reads.Learnt,
-) (walk-bind-at t) walk-bind.Post
-walk-bind-same-length-8 t c = c .before .before .before .before .before .before .before .before .close-spec .kept .0 ∙ c .before .before .before .before .before .before .before .before .before .before .before .before .before .before .before .before .before .before .before .before .before .before .before .before .before .before .before .before .before .analyze .kept .1 .0
+) (on-bind-at t) on-bind.Post
+on-bind-same-length-8 t c = c .before .before .before .before .before .before .before .before .close-spec .kept .0 ∙ c .before .before .before .before .before .before .before .before .before .before .before .before .before .before .before .before .before .before .before .before .before .before .before .before .before .before .before .before .before .analyze .kept .1 .0
 
-walk-bind-same-length-9 : (t : ℕ) → walk-bind-lts.Need-same-length-9 (
+on-bind-same-length-9 : (t : ℕ) → on-bind-lts.Need-same-length-9 (
   open-value-reads.Asked,
   open-value-reads.Learnt,
   no-value-reads.Asked,
@@ -413,10 +413,10 @@ walk-bind-same-length-9 : (t : ℕ) → walk-bind-lts.Need-same-length-9 (
   no-spec-reads.Learnt,
   close-spec-reads.Asked,
   close-spec-reads.Learnt,
-) (walk-bind-at t) walk-bind.Post
-walk-bind-same-length-9 t c = c .before .before .before .before .before .before .before .before .before .before .before .before .before .before .before .before .before .before .before .before .before .before .before .before .before .before .before .before .before .analyze .kept .1 .1 .0
+) (on-bind-at t) on-bind.Post
+on-bind-same-length-9 t c = c .before .before .before .before .before .before .before .before .before .before .before .before .before .before .before .before .before .before .before .before .before .before .before .before .before .before .before .before .before .analyze .kept .1 .1 .0
 
-walk-bind-same-length-10 : (t : ℕ) → walk-bind-lts.Need-same-length-10 (
+on-bind-same-length-10 : (t : ℕ) → on-bind-lts.Need-same-length-10 (
   open-value-reads.Asked,
   open-value-reads.Learnt,
   no-value-reads.Asked,
@@ -429,10 +429,10 @@ walk-bind-same-length-10 : (t : ℕ) → walk-bind-lts.Need-same-length-10 (
   no-spec-reads.Learnt,
   close-spec-reads.Asked,
   close-spec-reads.Learnt,
-) (walk-bind-at t) walk-bind.Post
-walk-bind-same-length-10 t c = c .before .before .before .before .before .before .before .before .close-spec .kept .1 .0 ∙ c .before .before .before .before .before .before .before .before .before .before .before .before .before .before .before .before .before .before .before .before .before .before .before .before .before .before .before .before .before .analyze .kept .1 .1 .1 .0
+) (on-bind-at t) on-bind.Post
+on-bind-same-length-10 t c = c .before .before .before .before .before .before .before .before .close-spec .kept .1 .0 ∙ c .before .before .before .before .before .before .before .before .before .before .before .before .before .before .before .before .before .before .before .before .before .before .before .before .before .before .before .before .before .analyze .kept .1 .1 .1 .0
 
-walk-bind-same-length-11 : (t : ℕ) → walk-bind-lts.Need-same-length-11 (
+on-bind-same-length-11 : (t : ℕ) → on-bind-lts.Need-same-length-11 (
   open-value-reads.Asked,
   open-value-reads.Learnt,
   no-value-reads.Asked,
@@ -445,10 +445,10 @@ walk-bind-same-length-11 : (t : ℕ) → walk-bind-lts.Need-same-length-11 (
   no-spec-reads.Learnt,
   close-spec-reads.Asked,
   close-spec-reads.Learnt,
-) (walk-bind-at t) walk-bind.Post
-walk-bind-same-length-11 t c = c .before .before .before .before .before .before .before .before .before .before .before .before .before .before .before .before .before .before .before .before .before .before .before .before .before .before .before .before .before .analyze .kept .1 .1 .1 .1 .0 ∙ c .before .before .before .before .before .before .before .before .before .before .before .before .before .before .before .before .before .before .before .before .before .before .before .before .before .before .before .before .before .before .before .before .before .before .before .before .before .before .before .before .before .before .open-value .kept .0
+) (on-bind-at t) on-bind.Post
+on-bind-same-length-11 t c = c .before .before .before .before .before .before .before .before .before .before .before .before .before .before .before .before .before .before .before .before .before .before .before .before .before .before .before .before .before .analyze .kept .1 .1 .1 .1 .0 ∙ c .before .before .before .before .before .before .before .before .before .before .before .before .before .before .before .before .before .before .before .before .before .before .before .before .before .before .before .before .before .before .before .before .before .before .before .before .before .before .before .before .before .before .open-value .kept .0
 
-walk-bind-same-length-12 : (t : ℕ) → walk-bind-lts.Need-same-length-12 (
+on-bind-same-length-12 : (t : ℕ) → on-bind-lts.Need-same-length-12 (
   open-value-reads.Asked,
   open-value-reads.Learnt,
   no-value-reads.Asked,
@@ -461,10 +461,10 @@ walk-bind-same-length-12 : (t : ℕ) → walk-bind-lts.Need-same-length-12 (
   no-spec-reads.Learnt,
   close-spec-reads.Asked,
   close-spec-reads.Learnt,
-) (walk-bind-at t) walk-bind.Post
-walk-bind-same-length-12 t c = c .before .before .before .before .before .before .before .before .close-spec .kept .1 .1 .1 .1 .0 ∙ c .before .before .before .before .before .before .before .before .before .before .before .before .before .before .before .before .before .before .before .before .before .before .before .before .before .before .before .before .before .analyze .kept .1 .1 .1 .1 .1 .0
+) (on-bind-at t) on-bind.Post
+on-bind-same-length-12 t c = c .before .before .before .before .before .before .before .before .close-spec .kept .1 .1 .1 .1 .0 ∙ c .before .before .before .before .before .before .before .before .before .before .before .before .before .before .before .before .before .before .before .before .before .before .before .before .before .before .before .before .before .analyze .kept .1 .1 .1 .1 .1 .0
 
-walk-bind-same-length-13 : (t : ℕ) → walk-bind-lts.Need-same-length-13 (
+on-bind-same-length-13 : (t : ℕ) → on-bind-lts.Need-same-length-13 (
   open-value-reads.Asked,
   open-value-reads.Learnt,
   no-value-reads.Asked,
@@ -477,10 +477,10 @@ walk-bind-same-length-13 : (t : ℕ) → walk-bind-lts.Need-same-length-13 (
   no-spec-reads.Learnt,
   close-spec-reads.Asked,
   close-spec-reads.Learnt,
-) (walk-bind-at t) walk-bind.Post
-walk-bind-same-length-13 t c = c .before .before .before .before .before .before .before .before .close-spec .kept .1 .1 .0 ∙ c .before .before .before .before .before .before .before .before .before .before .before .before .before .before .before .before .before .before .before .before .before .before .before .before .before .before .before .before .before .analyze .kept .1 .1 .1 .1 .1 .1 .0
+) (on-bind-at t) on-bind.Post
+on-bind-same-length-13 t c = c .before .before .before .before .before .before .before .before .close-spec .kept .1 .1 .0 ∙ c .before .before .before .before .before .before .before .before .before .before .before .before .before .before .before .before .before .before .before .before .before .before .before .before .before .before .before .before .before .analyze .kept .1 .1 .1 .1 .1 .1 .0
 
-walk-bind-returns-3 : (t : ℕ) → walk-bind-lts.Need-returns-3 (
+on-bind-returns-3 : (t : ℕ) → on-bind-lts.Need-returns-3 (
   open-value-reads.Asked,
   open-value-reads.Learnt,
   no-value-reads.Asked,
@@ -493,9 +493,9 @@ walk-bind-returns-3 : (t : ℕ) → walk-bind-lts.Need-returns-3 (
   no-spec-reads.Learnt,
   close-spec-reads.Asked,
   close-spec-reads.Learnt,
-) (walk-bind-at t) walk-bind.Post
+) (on-bind-at t) on-bind.Post
 unfolding naming-of stack spec-mark spec-numbers
-walk-bind-returns-3 t c =
+on-bind-returns-3 t c =
     let args· = c .before .before .before .before .before .before .before .before .before .before .before .before .before .before .before .before .before .before .before .before .before .before .before .before .before .before .before .before .before .before .before .before .before .before .before .before .before .before .before .before .before .before .before .before .before .before .before .before .before .before .before .args in
     let pre· = c .before .before .before .before .before .before .before .before .before .before .before .before .before .before .before .before .before .before .before .before .before .before .before .before .before .before .before .before .before .before .before .before .before .before .before .before .before .before .before .before .before .before .before .before .before .before .before .before .before .before .before .pre in
     let open-value· = c .before .before .before .before .before .before .before .before .before .before .before .before .before .before .before .before .before .before .before .before .before .before .before .before .before .before .before .before .before .before .before .before .before .before .before .before .before .before .before .before .before .before .open-value in
@@ -506,7 +506,7 @@ walk-bind-returns-3 t c =
     let close-spec· = c .before .before .before .before .before .before .before .before .close-spec in
     bind-ended (args· .tree .now) (args· .nest) (args· .at) (args· .base) (args· .kept) ((pre· .1 .1) .0) (place-of (args· .here)) (open-value· .ensures .opened _ _ _ _ _ ((pre· .1 .0) .fit)) (opened· .given .1) (record { out = refl; diagnostics = refl }) (bind-naming· .ensures) (analyze· .ensures) (w· .given .1) (record { out = analyze· .kept .1 .0; diagnostics = analyze· .kept .1 .1 .0 }) (written-counted _ _ ((pre· .1 .0) .fit)) refl refl refl (close-spec· .ensures .walks _ (went-fit (analyze· .ensures) (w· .given .1)))
 
-pub walk-bind-met : {M : Type 1} (t : ℕ) → walk-bind-lts.Closed (
+pub on-bind-met : {M : Type 1} (t : ℕ) → on-bind-lts.Closed (
   open-value-reads.Asked,
   open-value-reads.Learnt,
   no-value-reads.Asked,
@@ -519,8 +519,8 @@ pub walk-bind-met : {M : Type 1} (t : ℕ) → walk-bind-lts.Closed (
   no-spec-reads.Learnt,
   close-spec-reads.Asked,
   close-spec-reads.Learnt,
-) (walk-bind-at t) walk-bind.Post M
-walk-bind-met t = walk-bind-lts.spec (
+) (on-bind-at t) on-bind.Post M
+on-bind-met t = on-bind-lts.spec (
   open-value-reads.Asked,
   open-value-reads.Learnt,
   no-value-reads.Asked,
@@ -534,32 +534,32 @@ walk-bind-met t = walk-bind-lts.spec (
   close-spec-reads.Asked,
   close-spec-reads.Learnt,
 )
-    (walk-bind-at t)
-    walk-bind.Post
-    (walk-bind-open-value-requires t)
-    (walk-bind-enum-known-opened t)
-    (walk-bind-enum-told t)
-    (walk-bind-no-value-requires t)
-    (walk-bind-same-length t)
-    (walk-bind-returns t)
-    (walk-bind-add-analyze t)
-    (walk-bind-bind-naming-requires t)
-    (walk-bind-analyze-requires t)
-    (walk-bind-enum-known-w t)
-    (walk-bind-enum-told-2 t)
-    (walk-bind-no-spec-requires t)
-    (walk-bind-same-length-2 t)
-    (walk-bind-same-length-3 t)
-    (walk-bind-same-length-4 t)
-    (walk-bind-same-length-5 t)
-    (walk-bind-same-length-6 t)
-    (walk-bind-same-length-7 t)
-    (walk-bind-returns-2 t)
-    (walk-bind-close-spec-requires t)
-    (walk-bind-same-length-8 t)
-    (walk-bind-same-length-9 t)
-    (walk-bind-same-length-10 t)
-    (walk-bind-same-length-11 t)
-    (walk-bind-same-length-12 t)
-    (walk-bind-same-length-13 t)
-    (walk-bind-returns-3 t)
+    (on-bind-at t)
+    on-bind.Post
+    (on-bind-open-value-requires t)
+    (on-bind-enum-known-opened t)
+    (on-bind-enum-told t)
+    (on-bind-no-value-requires t)
+    (on-bind-same-length t)
+    (on-bind-returns t)
+    (on-bind-add-analyze t)
+    (on-bind-bind-naming-requires t)
+    (on-bind-analyze-requires t)
+    (on-bind-enum-known-w t)
+    (on-bind-enum-told-2 t)
+    (on-bind-no-spec-requires t)
+    (on-bind-same-length-2 t)
+    (on-bind-same-length-3 t)
+    (on-bind-same-length-4 t)
+    (on-bind-same-length-5 t)
+    (on-bind-same-length-6 t)
+    (on-bind-same-length-7 t)
+    (on-bind-returns-2 t)
+    (on-bind-close-spec-requires t)
+    (on-bind-same-length-8 t)
+    (on-bind-same-length-9 t)
+    (on-bind-same-length-10 t)
+    (on-bind-same-length-11 t)
+    (on-bind-same-length-12 t)
+    (on-bind-same-length-13 t)
+    (on-bind-returns-3 t)

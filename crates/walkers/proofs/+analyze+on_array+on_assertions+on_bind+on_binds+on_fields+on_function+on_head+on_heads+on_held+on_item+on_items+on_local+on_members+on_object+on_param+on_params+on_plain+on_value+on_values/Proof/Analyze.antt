@@ -12,18 +12,18 @@ use Rattle.state.specs.Walks.{place-of, naming-of}
 use Rattle.joins.proofs.Asking.{stands}
 use Rattle.joins.proofs.Returns.{identity-returns, constant-returns, variable-returns, import-returns}
 use Rattle.walkers.proofs.analyze.Reads as analyze
-use Rattle.walkers.proofs.+analyze+analyze_function+analyze_obj_members+walk_array+walk_assertions+walk_bind+walk_binds+walk_fields+walk_head+walk_heads+walk_held+walk_item+walk_items+walk_local+walk_object+walk_param+walk_params+walk_plain+walk_value+walk_values.Lts-analyze as analyze-lts
-use Rattle.walkers.proofs.analyze_function.Reads as analyze-function
-use Rattle.walkers.proofs.walk_array.Reads as walk-array
-use Rattle.walkers.proofs.walk_local.Reads as walk-local
-use Rattle.walkers.proofs.walk_object.Reads as walk-object
-use Rattle.walkers.proofs.walk_plain.Reads as walk-plain
+use Rattle.walkers.proofs.+analyze+on_array+on_assertions+on_bind+on_binds+on_fields+on_function+on_head+on_heads+on_held+on_item+on_items+on_local+on_members+on_object+on_param+on_params+on_plain+on_value+on_values.Lts-analyze as analyze-lts
+use Rattle.walkers.proofs.on_function.Reads as on-function
+use Rattle.walkers.proofs.on_array.Reads as on-array
+use Rattle.walkers.proofs.on_local.Reads as on-local
+use Rattle.walkers.proofs.on_object.Reads as on-object
+use Rattle.walkers.proofs.on_plain.Reads as on-plain
 use Rattle.atoms.proofs.analyze_identity.Reads as analyze-identity-reads
 use Rattle.atoms.proofs.analyze_import.Reads as analyze-import-reads
 use Rattle.atoms.proofs.analyze_variable.Reads as analyze-variable-reads
 use Rattle.atoms.proofs.copy_record.Reads as copy-record-reads
 use Rattle.packed.proofs.mark_at.Reads as mark-at-reads
-use Rattle.walkers.proofs.+analyze+analyze_function+analyze_obj_members+walk_array+walk_assertions+walk_bind+walk_binds+walk_fields+walk_head+walk_heads+walk_held+walk_item+walk_items+walk_local+walk_object+walk_param+walk_params+walk_plain+walk_value+walk_values.Proof.Measures.{analyze-at, analyze-function-below, walk-array-below, walk-local-below, walk-object-below, walk-plain-below}
+use Rattle.walkers.proofs.+analyze+on_array+on_assertions+on_bind+on_binds+on_fields+on_function+on_head+on_heads+on_held+on_item+on_items+on_local+on_members+on_object+on_param+on_params+on_plain+on_value+on_values.Proof.Measures.{analyze-at, on-function-below, on-array-below, on-local-below, on-object-below, on-plain-below}
 
 analyze-mark-at-requires : (t : ℕ) → analyze-lts.Need-mark-at-requires (
   mark-at-reads.Asked,
@@ -34,18 +34,18 @@ analyze-mark-at-requires : (t : ℕ) → analyze-lts.Need-mark-at-requires (
   copy-record-reads.Learnt,
   analyze-variable-reads.Asked,
   analyze-variable-reads.Learnt,
-  walk-array-below t,
-  walk-array.Post,
+  on-array-below t,
+  on-array.Post,
   analyze-import-reads.Asked,
   analyze-import-reads.Learnt,
-  walk-local-below t,
-  walk-local.Post,
-  analyze-function-below t,
-  analyze-function.Post,
-  walk-object-below t,
-  walk-object.Post,
-  walk-plain-below t,
-  walk-plain.Post,
+  on-local-below t,
+  on-local.Post,
+  on-function-below t,
+  on-function.Post,
+  on-object-below t,
+  on-object.Post,
+  on-plain-below t,
+  on-plain.Post,
 ) (analyze-at t) analyze.Post
 analyze-mark-at-requires t c κs = search needs
 
@@ -58,18 +58,18 @@ analyze-analyze-identity-requires : (t : ℕ) → analyze-lts.Need-analyze-ident
   copy-record-reads.Learnt,
   analyze-variable-reads.Asked,
   analyze-variable-reads.Learnt,
-  walk-array-below t,
-  walk-array.Post,
+  on-array-below t,
+  on-array.Post,
   analyze-import-reads.Asked,
   analyze-import-reads.Learnt,
-  walk-local-below t,
-  walk-local.Post,
-  analyze-function-below t,
-  analyze-function.Post,
-  walk-object-below t,
-  walk-object.Post,
-  walk-plain-below t,
-  walk-plain.Post,
+  on-local-below t,
+  on-local.Post,
+  on-function-below t,
+  on-function.Post,
+  on-object-below t,
+  on-object.Post,
+  on-plain-below t,
+  on-plain.Post,
 ) (analyze-at t) analyze.Post
 unfolding code
 analyze-analyze-identity-requires t c κs =
@@ -88,18 +88,18 @@ analyze-add-copy-record : (t : ℕ) → analyze-lts.Need-add-copy-record (
   copy-record-reads.Learnt,
   analyze-variable-reads.Asked,
   analyze-variable-reads.Learnt,
-  walk-array-below t,
-  walk-array.Post,
+  on-array-below t,
+  on-array.Post,
   analyze-import-reads.Asked,
   analyze-import-reads.Learnt,
-  walk-local-below t,
-  walk-local.Post,
-  analyze-function-below t,
-  analyze-function.Post,
-  walk-object-below t,
-  walk-object.Post,
-  walk-plain-below t,
-  walk-plain.Post,
+  on-local-below t,
+  on-local.Post,
+  on-function-below t,
+  on-function.Post,
+  on-object-below t,
+  on-object.Post,
+  on-plain-below t,
+  on-plain.Post,
 ) (analyze-at t) analyze.Post
 unfolding code
 analyze-add-copy-record t c =
@@ -118,18 +118,18 @@ analyze-copy-record-requires : (t : ℕ) → analyze-lts.Need-copy-record-requir
   copy-record-reads.Learnt,
   analyze-variable-reads.Asked,
   analyze-variable-reads.Learnt,
-  walk-array-below t,
-  walk-array.Post,
+  on-array-below t,
+  on-array.Post,
   analyze-import-reads.Asked,
   analyze-import-reads.Learnt,
-  walk-local-below t,
-  walk-local.Post,
-  analyze-function-below t,
-  analyze-function.Post,
-  walk-object-below t,
-  walk-object.Post,
-  walk-plain-below t,
-  walk-plain.Post,
+  on-local-below t,
+  on-local.Post,
+  on-function-below t,
+  on-function.Post,
+  on-object-below t,
+  on-object.Post,
+  on-plain-below t,
+  on-plain.Post,
 ) (analyze-at t) analyze.Post
 unfolding code mark-of find-mark marks choose size-of numbers-of widths width fields
 analyze-copy-record-requires t c κs =
@@ -148,18 +148,18 @@ analyze-analyze-variable-requires : (t : ℕ) → analyze-lts.Need-analyze-varia
   copy-record-reads.Learnt,
   analyze-variable-reads.Asked,
   analyze-variable-reads.Learnt,
-  walk-array-below t,
-  walk-array.Post,
+  on-array-below t,
+  on-array.Post,
   analyze-import-reads.Asked,
   analyze-import-reads.Learnt,
-  walk-local-below t,
-  walk-local.Post,
-  analyze-function-below t,
-  analyze-function.Post,
-  walk-object-below t,
-  walk-object.Post,
-  walk-plain-below t,
-  walk-plain.Post,
+  on-local-below t,
+  on-local.Post,
+  on-function-below t,
+  on-function.Post,
+  on-object-below t,
+  on-object.Post,
+  on-plain-below t,
+  on-plain.Post,
 ) (analyze-at t) analyze.Post
 unfolding code
 analyze-analyze-variable-requires t c κs =
@@ -169,7 +169,7 @@ analyze-analyze-variable-requires t c κs =
     let match· = c .before .before .before .before .before .match in
     ((variable-size (args· .tree .now) (args· .nest) (args· .at) (pre· .1 .1) (sym (mark-at· .ensures .0) ∙ (match· .keys3)), omega (arith, ((pre· .1 .0) .fit) .locals-long, ((pre· .1 .0) .fit) .few-locals)), (((pre· .1 .0) .fit) .frames-kept, ((pre· .1 .0) .fit) .captures-long))
 
-analyze-walk-array-requires : (t : ℕ) → analyze-lts.Need-walk-array-requires (
+analyze-on-array-requires : (t : ℕ) → analyze-lts.Need-on-array-requires (
   mark-at-reads.Asked,
   mark-at-reads.Learnt,
   analyze-identity-reads.Asked,
@@ -178,21 +178,21 @@ analyze-walk-array-requires : (t : ℕ) → analyze-lts.Need-walk-array-requires
   copy-record-reads.Learnt,
   analyze-variable-reads.Asked,
   analyze-variable-reads.Learnt,
-  walk-array-below t,
-  walk-array.Post,
+  on-array-below t,
+  on-array.Post,
   analyze-import-reads.Asked,
   analyze-import-reads.Learnt,
-  walk-local-below t,
-  walk-local.Post,
-  analyze-function-below t,
-  analyze-function.Post,
-  walk-object-below t,
-  walk-object.Post,
-  walk-plain-below t,
-  walk-plain.Post,
+  on-local-below t,
+  on-local.Post,
+  on-function-below t,
+  on-function.Post,
+  on-object-below t,
+  on-object.Post,
+  on-plain-below t,
+  on-plain.Post,
 ) (analyze-at t) analyze.Post
 unfolding code
-analyze-walk-array-requires t c κs =
+analyze-on-array-requires t c κs =
     let pre· = c .before .before .before .before .before .before .before .before .before .before .before .before .before .before .before .pre in
     let mark-at· = c .before .before .before .before .before .before .before .mark-at in
     let match· = c .before .before .before .before .before .before .match in
@@ -207,18 +207,18 @@ analyze-analyze-import-requires : (t : ℕ) → analyze-lts.Need-analyze-import-
   copy-record-reads.Learnt,
   analyze-variable-reads.Asked,
   analyze-variable-reads.Learnt,
-  walk-array-below t,
-  walk-array.Post,
+  on-array-below t,
+  on-array.Post,
   analyze-import-reads.Asked,
   analyze-import-reads.Learnt,
-  walk-local-below t,
-  walk-local.Post,
-  analyze-function-below t,
-  analyze-function.Post,
-  walk-object-below t,
-  walk-object.Post,
-  walk-plain-below t,
-  walk-plain.Post,
+  on-local-below t,
+  on-local.Post,
+  on-function-below t,
+  on-function.Post,
+  on-object-below t,
+  on-object.Post,
+  on-plain-below t,
+  on-plain.Post,
 ) (analyze-at t) analyze.Post
 unfolding code
 analyze-analyze-import-requires t c κs =
@@ -228,7 +228,7 @@ analyze-analyze-import-requires t c κs =
     let match· = c .before .before .match in
     import-size (args· .tree .now) (args· .nest) (args· .at) (pre· .1 .1) (sym (mark-at· .ensures .0) ∙ (match· .keys5))
 
-analyze-walk-local-requires : (t : ℕ) → analyze-lts.Need-walk-local-requires (
+analyze-on-local-requires : (t : ℕ) → analyze-lts.Need-on-local-requires (
   mark-at-reads.Asked,
   mark-at-reads.Learnt,
   analyze-identity-reads.Asked,
@@ -237,27 +237,27 @@ analyze-walk-local-requires : (t : ℕ) → analyze-lts.Need-walk-local-requires
   copy-record-reads.Learnt,
   analyze-variable-reads.Asked,
   analyze-variable-reads.Learnt,
-  walk-array-below t,
-  walk-array.Post,
+  on-array-below t,
+  on-array.Post,
   analyze-import-reads.Asked,
   analyze-import-reads.Learnt,
-  walk-local-below t,
-  walk-local.Post,
-  analyze-function-below t,
-  analyze-function.Post,
-  walk-object-below t,
-  walk-object.Post,
-  walk-plain-below t,
-  walk-plain.Post,
+  on-local-below t,
+  on-local.Post,
+  on-function-below t,
+  on-function.Post,
+  on-object-below t,
+  on-object.Post,
+  on-plain-below t,
+  on-plain.Post,
 ) (analyze-at t) analyze.Post
 unfolding code
-analyze-walk-local-requires t c κs =
+analyze-on-local-requires t c κs =
     let pre· = c .before .before .before .before .before .before .before .before .before .before .before .before .before .before .before .pre in
     let mark-at· = c .before .before .before .before .before .before .before .mark-at in
     let match· = c .before .before .before .before .before .before .match in
     (omega (arith, pre· .0), ((pre· .1 .0), (record { read = (pre· .1 .1); marked = (sym (mark-at· .ensures .0) ∙ (match· .keys6)) })))
 
-analyze-analyze-function-requires : (t : ℕ) → analyze-lts.Need-analyze-function-requires (
+analyze-on-function-requires : (t : ℕ) → analyze-lts.Need-on-function-requires (
   mark-at-reads.Asked,
   mark-at-reads.Learnt,
   analyze-identity-reads.Asked,
@@ -266,27 +266,27 @@ analyze-analyze-function-requires : (t : ℕ) → analyze-lts.Need-analyze-funct
   copy-record-reads.Learnt,
   analyze-variable-reads.Asked,
   analyze-variable-reads.Learnt,
-  walk-array-below t,
-  walk-array.Post,
+  on-array-below t,
+  on-array.Post,
   analyze-import-reads.Asked,
   analyze-import-reads.Learnt,
-  walk-local-below t,
-  walk-local.Post,
-  analyze-function-below t,
-  analyze-function.Post,
-  walk-object-below t,
-  walk-object.Post,
-  walk-plain-below t,
-  walk-plain.Post,
+  on-local-below t,
+  on-local.Post,
+  on-function-below t,
+  on-function.Post,
+  on-object-below t,
+  on-object.Post,
+  on-plain-below t,
+  on-plain.Post,
 ) (analyze-at t) analyze.Post
 unfolding code
-analyze-analyze-function-requires t c κs =
+analyze-on-function-requires t c κs =
     let pre· = c .before .before .before .before .before .before .before .before .before .before .before .before .before .before .before .pre in
     let mark-at· = c .before .before .before .before .before .before .before .mark-at in
     let match· = c .before .before .before .before .before .before .match in
     (omega (arith, pre· .0), ((pre· .1 .0), (record { read = (pre· .1 .1); marked = (sym (mark-at· .ensures .0) ∙ (match· .keys7)) })))
 
-analyze-walk-object-requires : (t : ℕ) → analyze-lts.Need-walk-object-requires (
+analyze-on-object-requires : (t : ℕ) → analyze-lts.Need-on-object-requires (
   mark-at-reads.Asked,
   mark-at-reads.Learnt,
   analyze-identity-reads.Asked,
@@ -295,27 +295,27 @@ analyze-walk-object-requires : (t : ℕ) → analyze-lts.Need-walk-object-requir
   copy-record-reads.Learnt,
   analyze-variable-reads.Asked,
   analyze-variable-reads.Learnt,
-  walk-array-below t,
-  walk-array.Post,
+  on-array-below t,
+  on-array.Post,
   analyze-import-reads.Asked,
   analyze-import-reads.Learnt,
-  walk-local-below t,
-  walk-local.Post,
-  analyze-function-below t,
-  analyze-function.Post,
-  walk-object-below t,
-  walk-object.Post,
-  walk-plain-below t,
-  walk-plain.Post,
+  on-local-below t,
+  on-local.Post,
+  on-function-below t,
+  on-function.Post,
+  on-object-below t,
+  on-object.Post,
+  on-plain-below t,
+  on-plain.Post,
 ) (analyze-at t) analyze.Post
 unfolding code
-analyze-walk-object-requires t c κs =
+analyze-on-object-requires t c κs =
     let pre· = c .before .before .before .before .before .before .before .before .before .before .before .before .before .before .before .pre in
     let mark-at· = c .before .before .before .before .before .before .before .mark-at in
     let match· = c .before .before .before .before .before .before .match in
     (omega (arith, pre· .0), ((pre· .1 .0), (record { read = (pre· .1 .1); marked = (sym (mark-at· .ensures .0) ∙ (match· .keys8)) })))
 
-analyze-walk-plain-requires : (t : ℕ) → analyze-lts.Need-walk-plain-requires (
+analyze-on-plain-requires : (t : ℕ) → analyze-lts.Need-on-plain-requires (
   mark-at-reads.Asked,
   mark-at-reads.Learnt,
   analyze-identity-reads.Asked,
@@ -324,21 +324,21 @@ analyze-walk-plain-requires : (t : ℕ) → analyze-lts.Need-walk-plain-requires
   copy-record-reads.Learnt,
   analyze-variable-reads.Asked,
   analyze-variable-reads.Learnt,
-  walk-array-below t,
-  walk-array.Post,
+  on-array-below t,
+  on-array.Post,
   analyze-import-reads.Asked,
   analyze-import-reads.Learnt,
-  walk-local-below t,
-  walk-local.Post,
-  analyze-function-below t,
-  analyze-function.Post,
-  walk-object-below t,
-  walk-object.Post,
-  walk-plain-below t,
-  walk-plain.Post,
+  on-local-below t,
+  on-local.Post,
+  on-function-below t,
+  on-function.Post,
+  on-object-below t,
+  on-object.Post,
+  on-plain-below t,
+  on-plain.Post,
 ) (analyze-at t) analyze.Post
 unfolding code
-analyze-walk-plain-requires t c κs =
+analyze-on-plain-requires t c κs =
     let pre· = c .before .before .before .before .before .before .before .before .before .before .before .before .before .before .before .pre in
     let mark-at· = c .before .before .before .before .before .before .before .mark-at in
     let match· = c .before .before .before .before .before .before .match in
@@ -353,18 +353,18 @@ analyze-same-length : (t : ℕ) → analyze-lts.Need-same-length (
   copy-record-reads.Learnt,
   analyze-variable-reads.Asked,
   analyze-variable-reads.Learnt,
-  walk-array-below t,
-  walk-array.Post,
+  on-array-below t,
+  on-array.Post,
   analyze-import-reads.Asked,
   analyze-import-reads.Learnt,
-  walk-local-below t,
-  walk-local.Post,
-  analyze-function-below t,
-  analyze-function.Post,
-  walk-object-below t,
-  walk-object.Post,
-  walk-plain-below t,
-  walk-plain.Post,
+  on-local-below t,
+  on-local.Post,
+  on-function-below t,
+  on-function.Post,
+  on-object-below t,
+  on-object.Post,
+  on-plain-below t,
+  on-plain.Post,
 ) (analyze-at t) analyze.Post
 analyze-same-length t c = c .before .before .before .before .before .before .analyze-identity .kept .1 .0
 
@@ -377,18 +377,18 @@ analyze-same-length-2 : (t : ℕ) → analyze-lts.Need-same-length-2 (
   copy-record-reads.Learnt,
   analyze-variable-reads.Asked,
   analyze-variable-reads.Learnt,
-  walk-array-below t,
-  walk-array.Post,
+  on-array-below t,
+  on-array.Post,
   analyze-import-reads.Asked,
   analyze-import-reads.Learnt,
-  walk-local-below t,
-  walk-local.Post,
-  analyze-function-below t,
-  analyze-function.Post,
-  walk-object-below t,
-  walk-object.Post,
-  walk-plain-below t,
-  walk-plain.Post,
+  on-local-below t,
+  on-local.Post,
+  on-function-below t,
+  on-function.Post,
+  on-object-below t,
+  on-object.Post,
+  on-plain-below t,
+  on-plain.Post,
 ) (analyze-at t) analyze.Post
 analyze-same-length-2 t c = c .before .before .before .before .before .before .analyze-identity .kept .1 .1 .0
 
@@ -401,18 +401,18 @@ analyze-same-length-3 : (t : ℕ) → analyze-lts.Need-same-length-3 (
   copy-record-reads.Learnt,
   analyze-variable-reads.Asked,
   analyze-variable-reads.Learnt,
-  walk-array-below t,
-  walk-array.Post,
+  on-array-below t,
+  on-array.Post,
   analyze-import-reads.Asked,
   analyze-import-reads.Learnt,
-  walk-local-below t,
-  walk-local.Post,
-  analyze-function-below t,
-  analyze-function.Post,
-  walk-object-below t,
-  walk-object.Post,
-  walk-plain-below t,
-  walk-plain.Post,
+  on-local-below t,
+  on-local.Post,
+  on-function-below t,
+  on-function.Post,
+  on-object-below t,
+  on-object.Post,
+  on-plain-below t,
+  on-plain.Post,
 ) (analyze-at t) analyze.Post
 analyze-same-length-3 t c = search needs
 
@@ -425,18 +425,18 @@ analyze-same-length-4 : (t : ℕ) → analyze-lts.Need-same-length-4 (
   copy-record-reads.Learnt,
   analyze-variable-reads.Asked,
   analyze-variable-reads.Learnt,
-  walk-array-below t,
-  walk-array.Post,
+  on-array-below t,
+  on-array.Post,
   analyze-import-reads.Asked,
   analyze-import-reads.Learnt,
-  walk-local-below t,
-  walk-local.Post,
-  analyze-function-below t,
-  analyze-function.Post,
-  walk-object-below t,
-  walk-object.Post,
-  walk-plain-below t,
-  walk-plain.Post,
+  on-local-below t,
+  on-local.Post,
+  on-function-below t,
+  on-function.Post,
+  on-object-below t,
+  on-object.Post,
+  on-plain-below t,
+  on-plain.Post,
 ) (analyze-at t) analyze.Post
 analyze-same-length-4 t c = search needs
 
@@ -449,18 +449,18 @@ analyze-same-length-5 : (t : ℕ) → analyze-lts.Need-same-length-5 (
   copy-record-reads.Learnt,
   analyze-variable-reads.Asked,
   analyze-variable-reads.Learnt,
-  walk-array-below t,
-  walk-array.Post,
+  on-array-below t,
+  on-array.Post,
   analyze-import-reads.Asked,
   analyze-import-reads.Learnt,
-  walk-local-below t,
-  walk-local.Post,
-  analyze-function-below t,
-  analyze-function.Post,
-  walk-object-below t,
-  walk-object.Post,
-  walk-plain-below t,
-  walk-plain.Post,
+  on-local-below t,
+  on-local.Post,
+  on-function-below t,
+  on-function.Post,
+  on-object-below t,
+  on-object.Post,
+  on-plain-below t,
+  on-plain.Post,
 ) (analyze-at t) analyze.Post
 analyze-same-length-5 t c = c .before .before .before .before .before .before .analyze-identity .kept .1 .1 .1 .1 .1 .0
 
@@ -473,18 +473,18 @@ analyze-returns : (t : ℕ) → analyze-lts.Need-returns (
   copy-record-reads.Learnt,
   analyze-variable-reads.Asked,
   analyze-variable-reads.Learnt,
-  walk-array-below t,
-  walk-array.Post,
+  on-array-below t,
+  on-array.Post,
   analyze-import-reads.Asked,
   analyze-import-reads.Learnt,
-  walk-local-below t,
-  walk-local.Post,
-  analyze-function-below t,
-  analyze-function.Post,
-  walk-object-below t,
-  walk-object.Post,
-  walk-plain-below t,
-  walk-plain.Post,
+  on-local-below t,
+  on-local.Post,
+  on-function-below t,
+  on-function.Post,
+  on-object-below t,
+  on-object.Post,
+  on-plain-below t,
+  on-plain.Post,
 ) (analyze-at t) analyze.Post
 unfolding code
 analyze-returns t c =
@@ -504,18 +504,18 @@ analyze-same-length-6 : (t : ℕ) → analyze-lts.Need-same-length-6 (
   copy-record-reads.Learnt,
   analyze-variable-reads.Asked,
   analyze-variable-reads.Learnt,
-  walk-array-below t,
-  walk-array.Post,
+  on-array-below t,
+  on-array.Post,
   analyze-import-reads.Asked,
   analyze-import-reads.Learnt,
-  walk-local-below t,
-  walk-local.Post,
-  analyze-function-below t,
-  analyze-function.Post,
-  walk-object-below t,
-  walk-object.Post,
-  walk-plain-below t,
-  walk-plain.Post,
+  on-local-below t,
+  on-local.Post,
+  on-function-below t,
+  on-function.Post,
+  on-object-below t,
+  on-object.Post,
+  on-plain-below t,
+  on-plain.Post,
 ) (analyze-at t) analyze.Post
 analyze-same-length-6 t c = c .before .before .copy-record .kept .1 .0
 
@@ -528,18 +528,18 @@ analyze-returns-2 : (t : ℕ) → analyze-lts.Need-returns-2 (
   copy-record-reads.Learnt,
   analyze-variable-reads.Asked,
   analyze-variable-reads.Learnt,
-  walk-array-below t,
-  walk-array.Post,
+  on-array-below t,
+  on-array.Post,
   analyze-import-reads.Asked,
   analyze-import-reads.Learnt,
-  walk-local-below t,
-  walk-local.Post,
-  analyze-function-below t,
-  analyze-function.Post,
-  walk-object-below t,
-  walk-object.Post,
-  walk-plain-below t,
-  walk-plain.Post,
+  on-local-below t,
+  on-local.Post,
+  on-function-below t,
+  on-function.Post,
+  on-object-below t,
+  on-object.Post,
+  on-plain-below t,
+  on-plain.Post,
 ) (analyze-at t) analyze.Post
 unfolding code mark-of find-mark marks choose size-of numbers-of widths width fields
 analyze-returns-2 t c =
@@ -559,18 +559,18 @@ analyze-same-length-7 : (t : ℕ) → analyze-lts.Need-same-length-7 (
   copy-record-reads.Learnt,
   analyze-variable-reads.Asked,
   analyze-variable-reads.Learnt,
-  walk-array-below t,
-  walk-array.Post,
+  on-array-below t,
+  on-array.Post,
   analyze-import-reads.Asked,
   analyze-import-reads.Learnt,
-  walk-local-below t,
-  walk-local.Post,
-  analyze-function-below t,
-  analyze-function.Post,
-  walk-object-below t,
-  walk-object.Post,
-  walk-plain-below t,
-  walk-plain.Post,
+  on-local-below t,
+  on-local.Post,
+  on-function-below t,
+  on-function.Post,
+  on-object-below t,
+  on-object.Post,
+  on-plain-below t,
+  on-plain.Post,
 ) (analyze-at t) analyze.Post
 analyze-same-length-7 t c = c .before .before .before .before .before .before .before .before .analyze-variable .kept .1 .0
 
@@ -583,18 +583,18 @@ analyze-same-length-8 : (t : ℕ) → analyze-lts.Need-same-length-8 (
   copy-record-reads.Learnt,
   analyze-variable-reads.Asked,
   analyze-variable-reads.Learnt,
-  walk-array-below t,
-  walk-array.Post,
+  on-array-below t,
+  on-array.Post,
   analyze-import-reads.Asked,
   analyze-import-reads.Learnt,
-  walk-local-below t,
-  walk-local.Post,
-  analyze-function-below t,
-  analyze-function.Post,
-  walk-object-below t,
-  walk-object.Post,
-  walk-plain-below t,
-  walk-plain.Post,
+  on-local-below t,
+  on-local.Post,
+  on-function-below t,
+  on-function.Post,
+  on-object-below t,
+  on-object.Post,
+  on-plain-below t,
+  on-plain.Post,
 ) (analyze-at t) analyze.Post
 analyze-same-length-8 t c = c .before .before .before .before .before .before .before .before .analyze-variable .kept .1 .1 .0
 
@@ -607,18 +607,18 @@ analyze-same-length-9 : (t : ℕ) → analyze-lts.Need-same-length-9 (
   copy-record-reads.Learnt,
   analyze-variable-reads.Asked,
   analyze-variable-reads.Learnt,
-  walk-array-below t,
-  walk-array.Post,
+  on-array-below t,
+  on-array.Post,
   analyze-import-reads.Asked,
   analyze-import-reads.Learnt,
-  walk-local-below t,
-  walk-local.Post,
-  analyze-function-below t,
-  analyze-function.Post,
-  walk-object-below t,
-  walk-object.Post,
-  walk-plain-below t,
-  walk-plain.Post,
+  on-local-below t,
+  on-local.Post,
+  on-function-below t,
+  on-function.Post,
+  on-object-below t,
+  on-object.Post,
+  on-plain-below t,
+  on-plain.Post,
 ) (analyze-at t) analyze.Post
 analyze-same-length-9 t c = c .before .before .before .before .before .before .before .before .analyze-variable .kept .1 .1 .1 .0
 
@@ -631,18 +631,18 @@ analyze-same-length-10 : (t : ℕ) → analyze-lts.Need-same-length-10 (
   copy-record-reads.Learnt,
   analyze-variable-reads.Asked,
   analyze-variable-reads.Learnt,
-  walk-array-below t,
-  walk-array.Post,
+  on-array-below t,
+  on-array.Post,
   analyze-import-reads.Asked,
   analyze-import-reads.Learnt,
-  walk-local-below t,
-  walk-local.Post,
-  analyze-function-below t,
-  analyze-function.Post,
-  walk-object-below t,
-  walk-object.Post,
-  walk-plain-below t,
-  walk-plain.Post,
+  on-local-below t,
+  on-local.Post,
+  on-function-below t,
+  on-function.Post,
+  on-object-below t,
+  on-object.Post,
+  on-plain-below t,
+  on-plain.Post,
 ) (analyze-at t) analyze.Post
 analyze-same-length-10 t c = search needs
 
@@ -655,18 +655,18 @@ analyze-same-length-11 : (t : ℕ) → analyze-lts.Need-same-length-11 (
   copy-record-reads.Learnt,
   analyze-variable-reads.Asked,
   analyze-variable-reads.Learnt,
-  walk-array-below t,
-  walk-array.Post,
+  on-array-below t,
+  on-array.Post,
   analyze-import-reads.Asked,
   analyze-import-reads.Learnt,
-  walk-local-below t,
-  walk-local.Post,
-  analyze-function-below t,
-  analyze-function.Post,
-  walk-object-below t,
-  walk-object.Post,
-  walk-plain-below t,
-  walk-plain.Post,
+  on-local-below t,
+  on-local.Post,
+  on-function-below t,
+  on-function.Post,
+  on-object-below t,
+  on-object.Post,
+  on-plain-below t,
+  on-plain.Post,
 ) (analyze-at t) analyze.Post
 analyze-same-length-11 t c = c .before .before .before .before .before .before .before .before .analyze-variable .kept .1 .1 .1 .1 .1 .0
 
@@ -679,18 +679,18 @@ analyze-returns-3 : (t : ℕ) → analyze-lts.Need-returns-3 (
   copy-record-reads.Learnt,
   analyze-variable-reads.Asked,
   analyze-variable-reads.Learnt,
-  walk-array-below t,
-  walk-array.Post,
+  on-array-below t,
+  on-array.Post,
   analyze-import-reads.Asked,
   analyze-import-reads.Learnt,
-  walk-local-below t,
-  walk-local.Post,
-  analyze-function-below t,
-  analyze-function.Post,
-  walk-object-below t,
-  walk-object.Post,
-  walk-plain-below t,
-  walk-plain.Post,
+  on-local-below t,
+  on-local.Post,
+  on-function-below t,
+  on-function.Post,
+  on-object-below t,
+  on-object.Post,
+  on-plain-below t,
+  on-plain.Post,
 ) (analyze-at t) analyze.Post
 unfolding code
 analyze-returns-3 t c =
@@ -710,20 +710,20 @@ analyze-same-length-12 : (t : ℕ) → analyze-lts.Need-same-length-12 (
   copy-record-reads.Learnt,
   analyze-variable-reads.Asked,
   analyze-variable-reads.Learnt,
-  walk-array-below t,
-  walk-array.Post,
+  on-array-below t,
+  on-array.Post,
   analyze-import-reads.Asked,
   analyze-import-reads.Learnt,
-  walk-local-below t,
-  walk-local.Post,
-  analyze-function-below t,
-  analyze-function.Post,
-  walk-object-below t,
-  walk-object.Post,
-  walk-plain-below t,
-  walk-plain.Post,
+  on-local-below t,
+  on-local.Post,
+  on-function-below t,
+  on-function.Post,
+  on-object-below t,
+  on-object.Post,
+  on-plain-below t,
+  on-plain.Post,
 ) (analyze-at t) analyze.Post
-analyze-same-length-12 t c = c .before .before .before .before .before .before .before .before .before .before .before .before .walk-array .kept .1 .0
+analyze-same-length-12 t c = c .before .before .before .before .before .before .before .before .before .before .before .before .on-array .kept .1 .0
 
 analyze-same-length-13 : (t : ℕ) → analyze-lts.Need-same-length-13 (
   mark-at-reads.Asked,
@@ -734,20 +734,20 @@ analyze-same-length-13 : (t : ℕ) → analyze-lts.Need-same-length-13 (
   copy-record-reads.Learnt,
   analyze-variable-reads.Asked,
   analyze-variable-reads.Learnt,
-  walk-array-below t,
-  walk-array.Post,
+  on-array-below t,
+  on-array.Post,
   analyze-import-reads.Asked,
   analyze-import-reads.Learnt,
-  walk-local-below t,
-  walk-local.Post,
-  analyze-function-below t,
-  analyze-function.Post,
-  walk-object-below t,
-  walk-object.Post,
-  walk-plain-below t,
-  walk-plain.Post,
+  on-local-below t,
+  on-local.Post,
+  on-function-below t,
+  on-function.Post,
+  on-object-below t,
+  on-object.Post,
+  on-plain-below t,
+  on-plain.Post,
 ) (analyze-at t) analyze.Post
-analyze-same-length-13 t c = c .before .before .before .before .before .before .before .before .before .before .before .before .walk-array .kept .1 .1 .0
+analyze-same-length-13 t c = c .before .before .before .before .before .before .before .before .before .before .before .before .on-array .kept .1 .1 .0
 
 analyze-same-length-14 : (t : ℕ) → analyze-lts.Need-same-length-14 (
   mark-at-reads.Asked,
@@ -758,20 +758,20 @@ analyze-same-length-14 : (t : ℕ) → analyze-lts.Need-same-length-14 (
   copy-record-reads.Learnt,
   analyze-variable-reads.Asked,
   analyze-variable-reads.Learnt,
-  walk-array-below t,
-  walk-array.Post,
+  on-array-below t,
+  on-array.Post,
   analyze-import-reads.Asked,
   analyze-import-reads.Learnt,
-  walk-local-below t,
-  walk-local.Post,
-  analyze-function-below t,
-  analyze-function.Post,
-  walk-object-below t,
-  walk-object.Post,
-  walk-plain-below t,
-  walk-plain.Post,
+  on-local-below t,
+  on-local.Post,
+  on-function-below t,
+  on-function.Post,
+  on-object-below t,
+  on-object.Post,
+  on-plain-below t,
+  on-plain.Post,
 ) (analyze-at t) analyze.Post
-analyze-same-length-14 t c = c .before .before .before .before .before .before .before .before .before .before .before .before .walk-array .kept .1 .1 .1 .0
+analyze-same-length-14 t c = c .before .before .before .before .before .before .before .before .before .before .before .before .on-array .kept .1 .1 .1 .0
 
 analyze-same-length-15 : (t : ℕ) → analyze-lts.Need-same-length-15 (
   mark-at-reads.Asked,
@@ -782,20 +782,20 @@ analyze-same-length-15 : (t : ℕ) → analyze-lts.Need-same-length-15 (
   copy-record-reads.Learnt,
   analyze-variable-reads.Asked,
   analyze-variable-reads.Learnt,
-  walk-array-below t,
-  walk-array.Post,
+  on-array-below t,
+  on-array.Post,
   analyze-import-reads.Asked,
   analyze-import-reads.Learnt,
-  walk-local-below t,
-  walk-local.Post,
-  analyze-function-below t,
-  analyze-function.Post,
-  walk-object-below t,
-  walk-object.Post,
-  walk-plain-below t,
-  walk-plain.Post,
+  on-local-below t,
+  on-local.Post,
+  on-function-below t,
+  on-function.Post,
+  on-object-below t,
+  on-object.Post,
+  on-plain-below t,
+  on-plain.Post,
 ) (analyze-at t) analyze.Post
-analyze-same-length-15 t c = c .before .before .before .before .before .before .before .before .before .before .before .before .walk-array .kept .1 .1 .1 .1 .0
+analyze-same-length-15 t c = c .before .before .before .before .before .before .before .before .before .before .before .before .on-array .kept .1 .1 .1 .1 .0
 
 analyze-same-length-16 : (t : ℕ) → analyze-lts.Need-same-length-16 (
   mark-at-reads.Asked,
@@ -806,20 +806,20 @@ analyze-same-length-16 : (t : ℕ) → analyze-lts.Need-same-length-16 (
   copy-record-reads.Learnt,
   analyze-variable-reads.Asked,
   analyze-variable-reads.Learnt,
-  walk-array-below t,
-  walk-array.Post,
+  on-array-below t,
+  on-array.Post,
   analyze-import-reads.Asked,
   analyze-import-reads.Learnt,
-  walk-local-below t,
-  walk-local.Post,
-  analyze-function-below t,
-  analyze-function.Post,
-  walk-object-below t,
-  walk-object.Post,
-  walk-plain-below t,
-  walk-plain.Post,
+  on-local-below t,
+  on-local.Post,
+  on-function-below t,
+  on-function.Post,
+  on-object-below t,
+  on-object.Post,
+  on-plain-below t,
+  on-plain.Post,
 ) (analyze-at t) analyze.Post
-analyze-same-length-16 t c = c .before .before .before .before .before .before .before .before .before .before .before .before .walk-array .kept .1 .1 .1 .1 .1 .0
+analyze-same-length-16 t c = c .before .before .before .before .before .before .before .before .before .before .before .before .on-array .kept .1 .1 .1 .1 .1 .0
 
 analyze-same-length-17 : (t : ℕ) → analyze-lts.Need-same-length-17 (
   mark-at-reads.Asked,
@@ -830,20 +830,20 @@ analyze-same-length-17 : (t : ℕ) → analyze-lts.Need-same-length-17 (
   copy-record-reads.Learnt,
   analyze-variable-reads.Asked,
   analyze-variable-reads.Learnt,
-  walk-array-below t,
-  walk-array.Post,
+  on-array-below t,
+  on-array.Post,
   analyze-import-reads.Asked,
   analyze-import-reads.Learnt,
-  walk-local-below t,
-  walk-local.Post,
-  analyze-function-below t,
-  analyze-function.Post,
-  walk-object-below t,
-  walk-object.Post,
-  walk-plain-below t,
-  walk-plain.Post,
+  on-local-below t,
+  on-local.Post,
+  on-function-below t,
+  on-function.Post,
+  on-object-below t,
+  on-object.Post,
+  on-plain-below t,
+  on-plain.Post,
 ) (analyze-at t) analyze.Post
-analyze-same-length-17 t c = c .before .before .before .before .before .before .before .before .before .before .before .before .walk-array .kept .1 .1 .1 .1 .1 .1 .0
+analyze-same-length-17 t c = c .before .before .before .before .before .before .before .before .before .before .before .before .on-array .kept .1 .1 .1 .1 .1 .1 .0
 
 analyze-returns-4 : (t : ℕ) → analyze-lts.Need-returns-4 (
   mark-at-reads.Asked,
@@ -854,22 +854,22 @@ analyze-returns-4 : (t : ℕ) → analyze-lts.Need-returns-4 (
   copy-record-reads.Learnt,
   analyze-variable-reads.Asked,
   analyze-variable-reads.Learnt,
-  walk-array-below t,
-  walk-array.Post,
+  on-array-below t,
+  on-array.Post,
   analyze-import-reads.Asked,
   analyze-import-reads.Learnt,
-  walk-local-below t,
-  walk-local.Post,
-  analyze-function-below t,
-  analyze-function.Post,
-  walk-object-below t,
-  walk-object.Post,
-  walk-plain-below t,
-  walk-plain.Post,
+  on-local-below t,
+  on-local.Post,
+  on-function-below t,
+  on-function.Post,
+  on-object-below t,
+  on-object.Post,
+  on-plain-below t,
+  on-plain.Post,
 ) (analyze-at t) analyze.Post
 analyze-returns-4 t c =
-    let walk-array· = c .before .before .before .before .before .before .before .before .before .before .before .before .walk-array in
-    walk-array· .ensures _
+    let on-array· = c .before .before .before .before .before .before .before .before .before .before .before .before .on-array in
+    on-array· .ensures _
 
 analyze-same-length-18 : (t : ℕ) → analyze-lts.Need-same-length-18 (
   mark-at-reads.Asked,
@@ -880,18 +880,18 @@ analyze-same-length-18 : (t : ℕ) → analyze-lts.Need-same-length-18 (
   copy-record-reads.Learnt,
   analyze-variable-reads.Asked,
   analyze-variable-reads.Learnt,
-  walk-array-below t,
-  walk-array.Post,
+  on-array-below t,
+  on-array.Post,
   analyze-import-reads.Asked,
   analyze-import-reads.Learnt,
-  walk-local-below t,
-  walk-local.Post,
-  analyze-function-below t,
-  analyze-function.Post,
-  walk-object-below t,
-  walk-object.Post,
-  walk-plain-below t,
-  walk-plain.Post,
+  on-local-below t,
+  on-local.Post,
+  on-function-below t,
+  on-function.Post,
+  on-object-below t,
+  on-object.Post,
+  on-plain-below t,
+  on-plain.Post,
 ) (analyze-at t) analyze.Post
 analyze-same-length-18 t c = c .before .before .before .before .analyze-import .kept .1 .0
 
@@ -904,18 +904,18 @@ analyze-same-length-19 : (t : ℕ) → analyze-lts.Need-same-length-19 (
   copy-record-reads.Learnt,
   analyze-variable-reads.Asked,
   analyze-variable-reads.Learnt,
-  walk-array-below t,
-  walk-array.Post,
+  on-array-below t,
+  on-array.Post,
   analyze-import-reads.Asked,
   analyze-import-reads.Learnt,
-  walk-local-below t,
-  walk-local.Post,
-  analyze-function-below t,
-  analyze-function.Post,
-  walk-object-below t,
-  walk-object.Post,
-  walk-plain-below t,
-  walk-plain.Post,
+  on-local-below t,
+  on-local.Post,
+  on-function-below t,
+  on-function.Post,
+  on-object-below t,
+  on-object.Post,
+  on-plain-below t,
+  on-plain.Post,
 ) (analyze-at t) analyze.Post
 analyze-same-length-19 t c = c .before .before .before .before .analyze-import .kept .1 .1 .0
 
@@ -928,18 +928,18 @@ analyze-returns-5 : (t : ℕ) → analyze-lts.Need-returns-5 (
   copy-record-reads.Learnt,
   analyze-variable-reads.Asked,
   analyze-variable-reads.Learnt,
-  walk-array-below t,
-  walk-array.Post,
+  on-array-below t,
+  on-array.Post,
   analyze-import-reads.Asked,
   analyze-import-reads.Learnt,
-  walk-local-below t,
-  walk-local.Post,
-  analyze-function-below t,
-  analyze-function.Post,
-  walk-object-below t,
-  walk-object.Post,
-  walk-plain-below t,
-  walk-plain.Post,
+  on-local-below t,
+  on-local.Post,
+  on-function-below t,
+  on-function.Post,
+  on-object-below t,
+  on-object.Post,
+  on-plain-below t,
+  on-plain.Post,
 ) (analyze-at t) analyze.Post
 unfolding code
 analyze-returns-5 t c =
@@ -959,20 +959,20 @@ analyze-same-length-20 : (t : ℕ) → analyze-lts.Need-same-length-20 (
   copy-record-reads.Learnt,
   analyze-variable-reads.Asked,
   analyze-variable-reads.Learnt,
-  walk-array-below t,
-  walk-array.Post,
+  on-array-below t,
+  on-array.Post,
   analyze-import-reads.Asked,
   analyze-import-reads.Learnt,
-  walk-local-below t,
-  walk-local.Post,
-  analyze-function-below t,
-  analyze-function.Post,
-  walk-object-below t,
-  walk-object.Post,
-  walk-plain-below t,
-  walk-plain.Post,
+  on-local-below t,
+  on-local.Post,
+  on-function-below t,
+  on-function.Post,
+  on-object-below t,
+  on-object.Post,
+  on-plain-below t,
+  on-plain.Post,
 ) (analyze-at t) analyze.Post
-analyze-same-length-20 t c = c .before .before .before .before .before .before .before .before .before .before .before .before .walk-local .kept .1 .0
+analyze-same-length-20 t c = c .before .before .before .before .before .before .before .before .before .before .before .before .on-local .kept .1 .0
 
 analyze-same-length-21 : (t : ℕ) → analyze-lts.Need-same-length-21 (
   mark-at-reads.Asked,
@@ -983,20 +983,20 @@ analyze-same-length-21 : (t : ℕ) → analyze-lts.Need-same-length-21 (
   copy-record-reads.Learnt,
   analyze-variable-reads.Asked,
   analyze-variable-reads.Learnt,
-  walk-array-below t,
-  walk-array.Post,
+  on-array-below t,
+  on-array.Post,
   analyze-import-reads.Asked,
   analyze-import-reads.Learnt,
-  walk-local-below t,
-  walk-local.Post,
-  analyze-function-below t,
-  analyze-function.Post,
-  walk-object-below t,
-  walk-object.Post,
-  walk-plain-below t,
-  walk-plain.Post,
+  on-local-below t,
+  on-local.Post,
+  on-function-below t,
+  on-function.Post,
+  on-object-below t,
+  on-object.Post,
+  on-plain-below t,
+  on-plain.Post,
 ) (analyze-at t) analyze.Post
-analyze-same-length-21 t c = c .before .before .before .before .before .before .before .before .before .before .before .before .walk-local .kept .1 .1 .0
+analyze-same-length-21 t c = c .before .before .before .before .before .before .before .before .before .before .before .before .on-local .kept .1 .1 .0
 
 analyze-same-length-22 : (t : ℕ) → analyze-lts.Need-same-length-22 (
   mark-at-reads.Asked,
@@ -1007,20 +1007,20 @@ analyze-same-length-22 : (t : ℕ) → analyze-lts.Need-same-length-22 (
   copy-record-reads.Learnt,
   analyze-variable-reads.Asked,
   analyze-variable-reads.Learnt,
-  walk-array-below t,
-  walk-array.Post,
+  on-array-below t,
+  on-array.Post,
   analyze-import-reads.Asked,
   analyze-import-reads.Learnt,
-  walk-local-below t,
-  walk-local.Post,
-  analyze-function-below t,
-  analyze-function.Post,
-  walk-object-below t,
-  walk-object.Post,
-  walk-plain-below t,
-  walk-plain.Post,
+  on-local-below t,
+  on-local.Post,
+  on-function-below t,
+  on-function.Post,
+  on-object-below t,
+  on-object.Post,
+  on-plain-below t,
+  on-plain.Post,
 ) (analyze-at t) analyze.Post
-analyze-same-length-22 t c = c .before .before .before .before .before .before .before .before .before .before .before .before .walk-local .kept .1 .1 .1 .0
+analyze-same-length-22 t c = c .before .before .before .before .before .before .before .before .before .before .before .before .on-local .kept .1 .1 .1 .0
 
 analyze-same-length-23 : (t : ℕ) → analyze-lts.Need-same-length-23 (
   mark-at-reads.Asked,
@@ -1031,20 +1031,20 @@ analyze-same-length-23 : (t : ℕ) → analyze-lts.Need-same-length-23 (
   copy-record-reads.Learnt,
   analyze-variable-reads.Asked,
   analyze-variable-reads.Learnt,
-  walk-array-below t,
-  walk-array.Post,
+  on-array-below t,
+  on-array.Post,
   analyze-import-reads.Asked,
   analyze-import-reads.Learnt,
-  walk-local-below t,
-  walk-local.Post,
-  analyze-function-below t,
-  analyze-function.Post,
-  walk-object-below t,
-  walk-object.Post,
-  walk-plain-below t,
-  walk-plain.Post,
+  on-local-below t,
+  on-local.Post,
+  on-function-below t,
+  on-function.Post,
+  on-object-below t,
+  on-object.Post,
+  on-plain-below t,
+  on-plain.Post,
 ) (analyze-at t) analyze.Post
-analyze-same-length-23 t c = c .before .before .before .before .before .before .before .before .before .before .before .before .walk-local .kept .1 .1 .1 .1 .0
+analyze-same-length-23 t c = c .before .before .before .before .before .before .before .before .before .before .before .before .on-local .kept .1 .1 .1 .1 .0
 
 analyze-same-length-24 : (t : ℕ) → analyze-lts.Need-same-length-24 (
   mark-at-reads.Asked,
@@ -1055,20 +1055,20 @@ analyze-same-length-24 : (t : ℕ) → analyze-lts.Need-same-length-24 (
   copy-record-reads.Learnt,
   analyze-variable-reads.Asked,
   analyze-variable-reads.Learnt,
-  walk-array-below t,
-  walk-array.Post,
+  on-array-below t,
+  on-array.Post,
   analyze-import-reads.Asked,
   analyze-import-reads.Learnt,
-  walk-local-below t,
-  walk-local.Post,
-  analyze-function-below t,
-  analyze-function.Post,
-  walk-object-below t,
-  walk-object.Post,
-  walk-plain-below t,
-  walk-plain.Post,
+  on-local-below t,
+  on-local.Post,
+  on-function-below t,
+  on-function.Post,
+  on-object-below t,
+  on-object.Post,
+  on-plain-below t,
+  on-plain.Post,
 ) (analyze-at t) analyze.Post
-analyze-same-length-24 t c = c .before .before .before .before .before .before .before .before .before .before .before .before .walk-local .kept .1 .1 .1 .1 .1 .0
+analyze-same-length-24 t c = c .before .before .before .before .before .before .before .before .before .before .before .before .on-local .kept .1 .1 .1 .1 .1 .0
 
 analyze-same-length-25 : (t : ℕ) → analyze-lts.Need-same-length-25 (
   mark-at-reads.Asked,
@@ -1079,20 +1079,20 @@ analyze-same-length-25 : (t : ℕ) → analyze-lts.Need-same-length-25 (
   copy-record-reads.Learnt,
   analyze-variable-reads.Asked,
   analyze-variable-reads.Learnt,
-  walk-array-below t,
-  walk-array.Post,
+  on-array-below t,
+  on-array.Post,
   analyze-import-reads.Asked,
   analyze-import-reads.Learnt,
-  walk-local-below t,
-  walk-local.Post,
-  analyze-function-below t,
-  analyze-function.Post,
-  walk-object-below t,
-  walk-object.Post,
-  walk-plain-below t,
-  walk-plain.Post,
+  on-local-below t,
+  on-local.Post,
+  on-function-below t,
+  on-function.Post,
+  on-object-below t,
+  on-object.Post,
+  on-plain-below t,
+  on-plain.Post,
 ) (analyze-at t) analyze.Post
-analyze-same-length-25 t c = c .before .before .before .before .before .before .before .before .before .before .before .before .walk-local .kept .1 .1 .1 .1 .1 .1 .0
+analyze-same-length-25 t c = c .before .before .before .before .before .before .before .before .before .before .before .before .on-local .kept .1 .1 .1 .1 .1 .1 .0
 
 analyze-returns-6 : (t : ℕ) → analyze-lts.Need-returns-6 (
   mark-at-reads.Asked,
@@ -1103,22 +1103,22 @@ analyze-returns-6 : (t : ℕ) → analyze-lts.Need-returns-6 (
   copy-record-reads.Learnt,
   analyze-variable-reads.Asked,
   analyze-variable-reads.Learnt,
-  walk-array-below t,
-  walk-array.Post,
+  on-array-below t,
+  on-array.Post,
   analyze-import-reads.Asked,
   analyze-import-reads.Learnt,
-  walk-local-below t,
-  walk-local.Post,
-  analyze-function-below t,
-  analyze-function.Post,
-  walk-object-below t,
-  walk-object.Post,
-  walk-plain-below t,
-  walk-plain.Post,
+  on-local-below t,
+  on-local.Post,
+  on-function-below t,
+  on-function.Post,
+  on-object-below t,
+  on-object.Post,
+  on-plain-below t,
+  on-plain.Post,
 ) (analyze-at t) analyze.Post
 analyze-returns-6 t c =
-    let walk-local· = c .before .before .before .before .before .before .before .before .before .before .before .before .walk-local in
-    walk-local· .ensures _
+    let on-local· = c .before .before .before .before .before .before .before .before .before .before .before .before .on-local in
+    on-local· .ensures _
 
 analyze-same-length-26 : (t : ℕ) → analyze-lts.Need-same-length-26 (
   mark-at-reads.Asked,
@@ -1129,20 +1129,20 @@ analyze-same-length-26 : (t : ℕ) → analyze-lts.Need-same-length-26 (
   copy-record-reads.Learnt,
   analyze-variable-reads.Asked,
   analyze-variable-reads.Learnt,
-  walk-array-below t,
-  walk-array.Post,
+  on-array-below t,
+  on-array.Post,
   analyze-import-reads.Asked,
   analyze-import-reads.Learnt,
-  walk-local-below t,
-  walk-local.Post,
-  analyze-function-below t,
-  analyze-function.Post,
-  walk-object-below t,
-  walk-object.Post,
-  walk-plain-below t,
-  walk-plain.Post,
+  on-local-below t,
+  on-local.Post,
+  on-function-below t,
+  on-function.Post,
+  on-object-below t,
+  on-object.Post,
+  on-plain-below t,
+  on-plain.Post,
 ) (analyze-at t) analyze.Post
-analyze-same-length-26 t c = c .before .before .before .before .before .before .before .before .before .before .before .before .analyze-function .kept .1 .0
+analyze-same-length-26 t c = c .before .before .before .before .before .before .before .before .before .before .before .before .on-function .kept .1 .0
 
 analyze-same-length-27 : (t : ℕ) → analyze-lts.Need-same-length-27 (
   mark-at-reads.Asked,
@@ -1153,20 +1153,20 @@ analyze-same-length-27 : (t : ℕ) → analyze-lts.Need-same-length-27 (
   copy-record-reads.Learnt,
   analyze-variable-reads.Asked,
   analyze-variable-reads.Learnt,
-  walk-array-below t,
-  walk-array.Post,
+  on-array-below t,
+  on-array.Post,
   analyze-import-reads.Asked,
   analyze-import-reads.Learnt,
-  walk-local-below t,
-  walk-local.Post,
-  analyze-function-below t,
-  analyze-function.Post,
-  walk-object-below t,
-  walk-object.Post,
-  walk-plain-below t,
-  walk-plain.Post,
+  on-local-below t,
+  on-local.Post,
+  on-function-below t,
+  on-function.Post,
+  on-object-below t,
+  on-object.Post,
+  on-plain-below t,
+  on-plain.Post,
 ) (analyze-at t) analyze.Post
-analyze-same-length-27 t c = c .before .before .before .before .before .before .before .before .before .before .before .before .analyze-function .kept .1 .1 .0
+analyze-same-length-27 t c = c .before .before .before .before .before .before .before .before .before .before .before .before .on-function .kept .1 .1 .0
 
 analyze-same-length-28 : (t : ℕ) → analyze-lts.Need-same-length-28 (
   mark-at-reads.Asked,
@@ -1177,20 +1177,20 @@ analyze-same-length-28 : (t : ℕ) → analyze-lts.Need-same-length-28 (
   copy-record-reads.Learnt,
   analyze-variable-reads.Asked,
   analyze-variable-reads.Learnt,
-  walk-array-below t,
-  walk-array.Post,
+  on-array-below t,
+  on-array.Post,
   analyze-import-reads.Asked,
   analyze-import-reads.Learnt,
-  walk-local-below t,
-  walk-local.Post,
-  analyze-function-below t,
-  analyze-function.Post,
-  walk-object-below t,
-  walk-object.Post,
-  walk-plain-below t,
-  walk-plain.Post,
+  on-local-below t,
+  on-local.Post,
+  on-function-below t,
+  on-function.Post,
+  on-object-below t,
+  on-object.Post,
+  on-plain-below t,
+  on-plain.Post,
 ) (analyze-at t) analyze.Post
-analyze-same-length-28 t c = c .before .before .before .before .before .before .before .before .before .before .before .before .analyze-function .kept .1 .1 .1 .0
+analyze-same-length-28 t c = c .before .before .before .before .before .before .before .before .before .before .before .before .on-function .kept .1 .1 .1 .0
 
 analyze-same-length-29 : (t : ℕ) → analyze-lts.Need-same-length-29 (
   mark-at-reads.Asked,
@@ -1201,20 +1201,20 @@ analyze-same-length-29 : (t : ℕ) → analyze-lts.Need-same-length-29 (
   copy-record-reads.Learnt,
   analyze-variable-reads.Asked,
   analyze-variable-reads.Learnt,
-  walk-array-below t,
-  walk-array.Post,
+  on-array-below t,
+  on-array.Post,
   analyze-import-reads.Asked,
   analyze-import-reads.Learnt,
-  walk-local-below t,
-  walk-local.Post,
-  analyze-function-below t,
-  analyze-function.Post,
-  walk-object-below t,
-  walk-object.Post,
-  walk-plain-below t,
-  walk-plain.Post,
+  on-local-below t,
+  on-local.Post,
+  on-function-below t,
+  on-function.Post,
+  on-object-below t,
+  on-object.Post,
+  on-plain-below t,
+  on-plain.Post,
 ) (analyze-at t) analyze.Post
-analyze-same-length-29 t c = c .before .before .before .before .before .before .before .before .before .before .before .before .analyze-function .kept .1 .1 .1 .1 .0
+analyze-same-length-29 t c = c .before .before .before .before .before .before .before .before .before .before .before .before .on-function .kept .1 .1 .1 .1 .0
 
 analyze-same-length-30 : (t : ℕ) → analyze-lts.Need-same-length-30 (
   mark-at-reads.Asked,
@@ -1225,20 +1225,20 @@ analyze-same-length-30 : (t : ℕ) → analyze-lts.Need-same-length-30 (
   copy-record-reads.Learnt,
   analyze-variable-reads.Asked,
   analyze-variable-reads.Learnt,
-  walk-array-below t,
-  walk-array.Post,
+  on-array-below t,
+  on-array.Post,
   analyze-import-reads.Asked,
   analyze-import-reads.Learnt,
-  walk-local-below t,
-  walk-local.Post,
-  analyze-function-below t,
-  analyze-function.Post,
-  walk-object-below t,
-  walk-object.Post,
-  walk-plain-below t,
-  walk-plain.Post,
+  on-local-below t,
+  on-local.Post,
+  on-function-below t,
+  on-function.Post,
+  on-object-below t,
+  on-object.Post,
+  on-plain-below t,
+  on-plain.Post,
 ) (analyze-at t) analyze.Post
-analyze-same-length-30 t c = c .before .before .before .before .before .before .before .before .before .before .before .before .analyze-function .kept .1 .1 .1 .1 .1 .0
+analyze-same-length-30 t c = c .before .before .before .before .before .before .before .before .before .before .before .before .on-function .kept .1 .1 .1 .1 .1 .0
 
 analyze-same-length-31 : (t : ℕ) → analyze-lts.Need-same-length-31 (
   mark-at-reads.Asked,
@@ -1249,20 +1249,20 @@ analyze-same-length-31 : (t : ℕ) → analyze-lts.Need-same-length-31 (
   copy-record-reads.Learnt,
   analyze-variable-reads.Asked,
   analyze-variable-reads.Learnt,
-  walk-array-below t,
-  walk-array.Post,
+  on-array-below t,
+  on-array.Post,
   analyze-import-reads.Asked,
   analyze-import-reads.Learnt,
-  walk-local-below t,
-  walk-local.Post,
-  analyze-function-below t,
-  analyze-function.Post,
-  walk-object-below t,
-  walk-object.Post,
-  walk-plain-below t,
-  walk-plain.Post,
+  on-local-below t,
+  on-local.Post,
+  on-function-below t,
+  on-function.Post,
+  on-object-below t,
+  on-object.Post,
+  on-plain-below t,
+  on-plain.Post,
 ) (analyze-at t) analyze.Post
-analyze-same-length-31 t c = c .before .before .before .before .before .before .before .before .before .before .before .before .analyze-function .kept .1 .1 .1 .1 .1 .1 .0
+analyze-same-length-31 t c = c .before .before .before .before .before .before .before .before .before .before .before .before .on-function .kept .1 .1 .1 .1 .1 .1 .0
 
 analyze-returns-7 : (t : ℕ) → analyze-lts.Need-returns-7 (
   mark-at-reads.Asked,
@@ -1273,22 +1273,22 @@ analyze-returns-7 : (t : ℕ) → analyze-lts.Need-returns-7 (
   copy-record-reads.Learnt,
   analyze-variable-reads.Asked,
   analyze-variable-reads.Learnt,
-  walk-array-below t,
-  walk-array.Post,
+  on-array-below t,
+  on-array.Post,
   analyze-import-reads.Asked,
   analyze-import-reads.Learnt,
-  walk-local-below t,
-  walk-local.Post,
-  analyze-function-below t,
-  analyze-function.Post,
-  walk-object-below t,
-  walk-object.Post,
-  walk-plain-below t,
-  walk-plain.Post,
+  on-local-below t,
+  on-local.Post,
+  on-function-below t,
+  on-function.Post,
+  on-object-below t,
+  on-object.Post,
+  on-plain-below t,
+  on-plain.Post,
 ) (analyze-at t) analyze.Post
 analyze-returns-7 t c =
-    let analyze-function· = c .before .before .before .before .before .before .before .before .before .before .before .before .analyze-function in
-    analyze-function· .ensures
+    let on-function· = c .before .before .before .before .before .before .before .before .before .before .before .before .on-function in
+    on-function· .ensures
 
 analyze-same-length-32 : (t : ℕ) → analyze-lts.Need-same-length-32 (
   mark-at-reads.Asked,
@@ -1299,20 +1299,20 @@ analyze-same-length-32 : (t : ℕ) → analyze-lts.Need-same-length-32 (
   copy-record-reads.Learnt,
   analyze-variable-reads.Asked,
   analyze-variable-reads.Learnt,
-  walk-array-below t,
-  walk-array.Post,
+  on-array-below t,
+  on-array.Post,
   analyze-import-reads.Asked,
   analyze-import-reads.Learnt,
-  walk-local-below t,
-  walk-local.Post,
-  analyze-function-below t,
-  analyze-function.Post,
-  walk-object-below t,
-  walk-object.Post,
-  walk-plain-below t,
-  walk-plain.Post,
+  on-local-below t,
+  on-local.Post,
+  on-function-below t,
+  on-function.Post,
+  on-object-below t,
+  on-object.Post,
+  on-plain-below t,
+  on-plain.Post,
 ) (analyze-at t) analyze.Post
-analyze-same-length-32 t c = c .before .before .before .before .before .before .before .before .before .before .before .before .walk-object .kept .1 .0
+analyze-same-length-32 t c = c .before .before .before .before .before .before .before .before .before .before .before .before .on-object .kept .1 .0
 
 analyze-same-length-33 : (t : ℕ) → analyze-lts.Need-same-length-33 (
   mark-at-reads.Asked,
@@ -1323,20 +1323,20 @@ analyze-same-length-33 : (t : ℕ) → analyze-lts.Need-same-length-33 (
   copy-record-reads.Learnt,
   analyze-variable-reads.Asked,
   analyze-variable-reads.Learnt,
-  walk-array-below t,
-  walk-array.Post,
+  on-array-below t,
+  on-array.Post,
   analyze-import-reads.Asked,
   analyze-import-reads.Learnt,
-  walk-local-below t,
-  walk-local.Post,
-  analyze-function-below t,
-  analyze-function.Post,
-  walk-object-below t,
-  walk-object.Post,
-  walk-plain-below t,
-  walk-plain.Post,
+  on-local-below t,
+  on-local.Post,
+  on-function-below t,
+  on-function.Post,
+  on-object-below t,
+  on-object.Post,
+  on-plain-below t,
+  on-plain.Post,
 ) (analyze-at t) analyze.Post
-analyze-same-length-33 t c = c .before .before .before .before .before .before .before .before .before .before .before .before .walk-object .kept .1 .1 .0
+analyze-same-length-33 t c = c .before .before .before .before .before .before .before .before .before .before .before .before .on-object .kept .1 .1 .0
 
 analyze-same-length-34 : (t : ℕ) → analyze-lts.Need-same-length-34 (
   mark-at-reads.Asked,
@@ -1347,20 +1347,20 @@ analyze-same-length-34 : (t : ℕ) → analyze-lts.Need-same-length-34 (
   copy-record-reads.Learnt,
   analyze-variable-reads.Asked,
   analyze-variable-reads.Learnt,
-  walk-array-below t,
-  walk-array.Post,
+  on-array-below t,
+  on-array.Post,
   analyze-import-reads.Asked,
   analyze-import-reads.Learnt,
-  walk-local-below t,
-  walk-local.Post,
-  analyze-function-below t,
-  analyze-function.Post,
-  walk-object-below t,
-  walk-object.Post,
-  walk-plain-below t,
-  walk-plain.Post,
+  on-local-below t,
+  on-local.Post,
+  on-function-below t,
+  on-function.Post,
+  on-object-below t,
+  on-object.Post,
+  on-plain-below t,
+  on-plain.Post,
 ) (analyze-at t) analyze.Post
-analyze-same-length-34 t c = c .before .before .before .before .before .before .before .before .before .before .before .before .walk-object .kept .1 .1 .1 .0
+analyze-same-length-34 t c = c .before .before .before .before .before .before .before .before .before .before .before .before .on-object .kept .1 .1 .1 .0
 
 analyze-same-length-35 : (t : ℕ) → analyze-lts.Need-same-length-35 (
   mark-at-reads.Asked,
@@ -1371,20 +1371,20 @@ analyze-same-length-35 : (t : ℕ) → analyze-lts.Need-same-length-35 (
   copy-record-reads.Learnt,
   analyze-variable-reads.Asked,
   analyze-variable-reads.Learnt,
-  walk-array-below t,
-  walk-array.Post,
+  on-array-below t,
+  on-array.Post,
   analyze-import-reads.Asked,
   analyze-import-reads.Learnt,
-  walk-local-below t,
-  walk-local.Post,
-  analyze-function-below t,
-  analyze-function.Post,
-  walk-object-below t,
-  walk-object.Post,
-  walk-plain-below t,
-  walk-plain.Post,
+  on-local-below t,
+  on-local.Post,
+  on-function-below t,
+  on-function.Post,
+  on-object-below t,
+  on-object.Post,
+  on-plain-below t,
+  on-plain.Post,
 ) (analyze-at t) analyze.Post
-analyze-same-length-35 t c = c .before .before .before .before .before .before .before .before .before .before .before .before .walk-object .kept .1 .1 .1 .1 .0
+analyze-same-length-35 t c = c .before .before .before .before .before .before .before .before .before .before .before .before .on-object .kept .1 .1 .1 .1 .0
 
 analyze-same-length-36 : (t : ℕ) → analyze-lts.Need-same-length-36 (
   mark-at-reads.Asked,
@@ -1395,20 +1395,20 @@ analyze-same-length-36 : (t : ℕ) → analyze-lts.Need-same-length-36 (
   copy-record-reads.Learnt,
   analyze-variable-reads.Asked,
   analyze-variable-reads.Learnt,
-  walk-array-below t,
-  walk-array.Post,
+  on-array-below t,
+  on-array.Post,
   analyze-import-reads.Asked,
   analyze-import-reads.Learnt,
-  walk-local-below t,
-  walk-local.Post,
-  analyze-function-below t,
-  analyze-function.Post,
-  walk-object-below t,
-  walk-object.Post,
-  walk-plain-below t,
-  walk-plain.Post,
+  on-local-below t,
+  on-local.Post,
+  on-function-below t,
+  on-function.Post,
+  on-object-below t,
+  on-object.Post,
+  on-plain-below t,
+  on-plain.Post,
 ) (analyze-at t) analyze.Post
-analyze-same-length-36 t c = c .before .before .before .before .before .before .before .before .before .before .before .before .walk-object .kept .1 .1 .1 .1 .1 .0
+analyze-same-length-36 t c = c .before .before .before .before .before .before .before .before .before .before .before .before .on-object .kept .1 .1 .1 .1 .1 .0
 
 analyze-same-length-37 : (t : ℕ) → analyze-lts.Need-same-length-37 (
   mark-at-reads.Asked,
@@ -1419,20 +1419,20 @@ analyze-same-length-37 : (t : ℕ) → analyze-lts.Need-same-length-37 (
   copy-record-reads.Learnt,
   analyze-variable-reads.Asked,
   analyze-variable-reads.Learnt,
-  walk-array-below t,
-  walk-array.Post,
+  on-array-below t,
+  on-array.Post,
   analyze-import-reads.Asked,
   analyze-import-reads.Learnt,
-  walk-local-below t,
-  walk-local.Post,
-  analyze-function-below t,
-  analyze-function.Post,
-  walk-object-below t,
-  walk-object.Post,
-  walk-plain-below t,
-  walk-plain.Post,
+  on-local-below t,
+  on-local.Post,
+  on-function-below t,
+  on-function.Post,
+  on-object-below t,
+  on-object.Post,
+  on-plain-below t,
+  on-plain.Post,
 ) (analyze-at t) analyze.Post
-analyze-same-length-37 t c = c .before .before .before .before .before .before .before .before .before .before .before .before .walk-object .kept .1 .1 .1 .1 .1 .1 .0
+analyze-same-length-37 t c = c .before .before .before .before .before .before .before .before .before .before .before .before .on-object .kept .1 .1 .1 .1 .1 .1 .0
 
 analyze-returns-8 : (t : ℕ) → analyze-lts.Need-returns-8 (
   mark-at-reads.Asked,
@@ -1443,22 +1443,22 @@ analyze-returns-8 : (t : ℕ) → analyze-lts.Need-returns-8 (
   copy-record-reads.Learnt,
   analyze-variable-reads.Asked,
   analyze-variable-reads.Learnt,
-  walk-array-below t,
-  walk-array.Post,
+  on-array-below t,
+  on-array.Post,
   analyze-import-reads.Asked,
   analyze-import-reads.Learnt,
-  walk-local-below t,
-  walk-local.Post,
-  analyze-function-below t,
-  analyze-function.Post,
-  walk-object-below t,
-  walk-object.Post,
-  walk-plain-below t,
-  walk-plain.Post,
+  on-local-below t,
+  on-local.Post,
+  on-function-below t,
+  on-function.Post,
+  on-object-below t,
+  on-object.Post,
+  on-plain-below t,
+  on-plain.Post,
 ) (analyze-at t) analyze.Post
 analyze-returns-8 t c =
-    let walk-object· = c .before .before .before .before .before .before .before .before .before .before .before .before .walk-object in
-    walk-object· .ensures _
+    let on-object· = c .before .before .before .before .before .before .before .before .before .before .before .before .on-object in
+    on-object· .ensures _
 
 analyze-same-length-38 : (t : ℕ) → analyze-lts.Need-same-length-38 (
   mark-at-reads.Asked,
@@ -1469,20 +1469,20 @@ analyze-same-length-38 : (t : ℕ) → analyze-lts.Need-same-length-38 (
   copy-record-reads.Learnt,
   analyze-variable-reads.Asked,
   analyze-variable-reads.Learnt,
-  walk-array-below t,
-  walk-array.Post,
+  on-array-below t,
+  on-array.Post,
   analyze-import-reads.Asked,
   analyze-import-reads.Learnt,
-  walk-local-below t,
-  walk-local.Post,
-  analyze-function-below t,
-  analyze-function.Post,
-  walk-object-below t,
-  walk-object.Post,
-  walk-plain-below t,
-  walk-plain.Post,
+  on-local-below t,
+  on-local.Post,
+  on-function-below t,
+  on-function.Post,
+  on-object-below t,
+  on-object.Post,
+  on-plain-below t,
+  on-plain.Post,
 ) (analyze-at t) analyze.Post
-analyze-same-length-38 t c = c .before .before .before .before .before .before .before .before .before .before .before .before .walk-plain .kept .1 .0
+analyze-same-length-38 t c = c .before .before .before .before .before .before .before .before .before .before .before .before .on-plain .kept .1 .0
 
 analyze-same-length-39 : (t : ℕ) → analyze-lts.Need-same-length-39 (
   mark-at-reads.Asked,
@@ -1493,20 +1493,20 @@ analyze-same-length-39 : (t : ℕ) → analyze-lts.Need-same-length-39 (
   copy-record-reads.Learnt,
   analyze-variable-reads.Asked,
   analyze-variable-reads.Learnt,
-  walk-array-below t,
-  walk-array.Post,
+  on-array-below t,
+  on-array.Post,
   analyze-import-reads.Asked,
   analyze-import-reads.Learnt,
-  walk-local-below t,
-  walk-local.Post,
-  analyze-function-below t,
-  analyze-function.Post,
-  walk-object-below t,
-  walk-object.Post,
-  walk-plain-below t,
-  walk-plain.Post,
+  on-local-below t,
+  on-local.Post,
+  on-function-below t,
+  on-function.Post,
+  on-object-below t,
+  on-object.Post,
+  on-plain-below t,
+  on-plain.Post,
 ) (analyze-at t) analyze.Post
-analyze-same-length-39 t c = c .before .before .before .before .before .before .before .before .before .before .before .before .walk-plain .kept .1 .1 .0
+analyze-same-length-39 t c = c .before .before .before .before .before .before .before .before .before .before .before .before .on-plain .kept .1 .1 .0
 
 analyze-same-length-40 : (t : ℕ) → analyze-lts.Need-same-length-40 (
   mark-at-reads.Asked,
@@ -1517,20 +1517,20 @@ analyze-same-length-40 : (t : ℕ) → analyze-lts.Need-same-length-40 (
   copy-record-reads.Learnt,
   analyze-variable-reads.Asked,
   analyze-variable-reads.Learnt,
-  walk-array-below t,
-  walk-array.Post,
+  on-array-below t,
+  on-array.Post,
   analyze-import-reads.Asked,
   analyze-import-reads.Learnt,
-  walk-local-below t,
-  walk-local.Post,
-  analyze-function-below t,
-  analyze-function.Post,
-  walk-object-below t,
-  walk-object.Post,
-  walk-plain-below t,
-  walk-plain.Post,
+  on-local-below t,
+  on-local.Post,
+  on-function-below t,
+  on-function.Post,
+  on-object-below t,
+  on-object.Post,
+  on-plain-below t,
+  on-plain.Post,
 ) (analyze-at t) analyze.Post
-analyze-same-length-40 t c = c .before .before .before .before .before .before .before .before .before .before .before .before .walk-plain .kept .1 .1 .1 .0
+analyze-same-length-40 t c = c .before .before .before .before .before .before .before .before .before .before .before .before .on-plain .kept .1 .1 .1 .0
 
 analyze-same-length-41 : (t : ℕ) → analyze-lts.Need-same-length-41 (
   mark-at-reads.Asked,
@@ -1541,20 +1541,20 @@ analyze-same-length-41 : (t : ℕ) → analyze-lts.Need-same-length-41 (
   copy-record-reads.Learnt,
   analyze-variable-reads.Asked,
   analyze-variable-reads.Learnt,
-  walk-array-below t,
-  walk-array.Post,
+  on-array-below t,
+  on-array.Post,
   analyze-import-reads.Asked,
   analyze-import-reads.Learnt,
-  walk-local-below t,
-  walk-local.Post,
-  analyze-function-below t,
-  analyze-function.Post,
-  walk-object-below t,
-  walk-object.Post,
-  walk-plain-below t,
-  walk-plain.Post,
+  on-local-below t,
+  on-local.Post,
+  on-function-below t,
+  on-function.Post,
+  on-object-below t,
+  on-object.Post,
+  on-plain-below t,
+  on-plain.Post,
 ) (analyze-at t) analyze.Post
-analyze-same-length-41 t c = c .before .before .before .before .before .before .before .before .before .before .before .before .walk-plain .kept .1 .1 .1 .1 .0
+analyze-same-length-41 t c = c .before .before .before .before .before .before .before .before .before .before .before .before .on-plain .kept .1 .1 .1 .1 .0
 
 analyze-same-length-42 : (t : ℕ) → analyze-lts.Need-same-length-42 (
   mark-at-reads.Asked,
@@ -1565,20 +1565,20 @@ analyze-same-length-42 : (t : ℕ) → analyze-lts.Need-same-length-42 (
   copy-record-reads.Learnt,
   analyze-variable-reads.Asked,
   analyze-variable-reads.Learnt,
-  walk-array-below t,
-  walk-array.Post,
+  on-array-below t,
+  on-array.Post,
   analyze-import-reads.Asked,
   analyze-import-reads.Learnt,
-  walk-local-below t,
-  walk-local.Post,
-  analyze-function-below t,
-  analyze-function.Post,
-  walk-object-below t,
-  walk-object.Post,
-  walk-plain-below t,
-  walk-plain.Post,
+  on-local-below t,
+  on-local.Post,
+  on-function-below t,
+  on-function.Post,
+  on-object-below t,
+  on-object.Post,
+  on-plain-below t,
+  on-plain.Post,
 ) (analyze-at t) analyze.Post
-analyze-same-length-42 t c = c .before .before .before .before .before .before .before .before .before .before .before .before .walk-plain .kept .1 .1 .1 .1 .1 .0
+analyze-same-length-42 t c = c .before .before .before .before .before .before .before .before .before .before .before .before .on-plain .kept .1 .1 .1 .1 .1 .0
 
 analyze-same-length-43 : (t : ℕ) → analyze-lts.Need-same-length-43 (
   mark-at-reads.Asked,
@@ -1589,20 +1589,20 @@ analyze-same-length-43 : (t : ℕ) → analyze-lts.Need-same-length-43 (
   copy-record-reads.Learnt,
   analyze-variable-reads.Asked,
   analyze-variable-reads.Learnt,
-  walk-array-below t,
-  walk-array.Post,
+  on-array-below t,
+  on-array.Post,
   analyze-import-reads.Asked,
   analyze-import-reads.Learnt,
-  walk-local-below t,
-  walk-local.Post,
-  analyze-function-below t,
-  analyze-function.Post,
-  walk-object-below t,
-  walk-object.Post,
-  walk-plain-below t,
-  walk-plain.Post,
+  on-local-below t,
+  on-local.Post,
+  on-function-below t,
+  on-function.Post,
+  on-object-below t,
+  on-object.Post,
+  on-plain-below t,
+  on-plain.Post,
 ) (analyze-at t) analyze.Post
-analyze-same-length-43 t c = c .before .before .before .before .before .before .before .before .before .before .before .before .walk-plain .kept .1 .1 .1 .1 .1 .1 .0
+analyze-same-length-43 t c = c .before .before .before .before .before .before .before .before .before .before .before .before .on-plain .kept .1 .1 .1 .1 .1 .1 .0
 
 analyze-returns-9 : (t : ℕ) → analyze-lts.Need-returns-9 (
   mark-at-reads.Asked,
@@ -1613,22 +1613,22 @@ analyze-returns-9 : (t : ℕ) → analyze-lts.Need-returns-9 (
   copy-record-reads.Learnt,
   analyze-variable-reads.Asked,
   analyze-variable-reads.Learnt,
-  walk-array-below t,
-  walk-array.Post,
+  on-array-below t,
+  on-array.Post,
   analyze-import-reads.Asked,
   analyze-import-reads.Learnt,
-  walk-local-below t,
-  walk-local.Post,
-  analyze-function-below t,
-  analyze-function.Post,
-  walk-object-below t,
-  walk-object.Post,
-  walk-plain-below t,
-  walk-plain.Post,
+  on-local-below t,
+  on-local.Post,
+  on-function-below t,
+  on-function.Post,
+  on-object-below t,
+  on-object.Post,
+  on-plain-below t,
+  on-plain.Post,
 ) (analyze-at t) analyze.Post
 analyze-returns-9 t c =
-    let walk-plain· = c .before .before .before .before .before .before .before .before .before .before .before .before .walk-plain in
-    walk-plain· .ensures _
+    let on-plain· = c .before .before .before .before .before .before .before .before .before .before .before .before .on-plain in
+    on-plain· .ensures _
 
 pub analyze-met : {M : Type 1} (t : ℕ) → analyze-lts.Closed (
   mark-at-reads.Asked,
@@ -1639,18 +1639,18 @@ pub analyze-met : {M : Type 1} (t : ℕ) → analyze-lts.Closed (
   copy-record-reads.Learnt,
   analyze-variable-reads.Asked,
   analyze-variable-reads.Learnt,
-  walk-array-below t,
-  walk-array.Post,
+  on-array-below t,
+  on-array.Post,
   analyze-import-reads.Asked,
   analyze-import-reads.Learnt,
-  walk-local-below t,
-  walk-local.Post,
-  analyze-function-below t,
-  analyze-function.Post,
-  walk-object-below t,
-  walk-object.Post,
-  walk-plain-below t,
-  walk-plain.Post,
+  on-local-below t,
+  on-local.Post,
+  on-function-below t,
+  on-function.Post,
+  on-object-below t,
+  on-object.Post,
+  on-plain-below t,
+  on-plain.Post,
 ) (analyze-at t) analyze.Post M
 analyze-met t = analyze-lts.spec (
   mark-at-reads.Asked,
@@ -1661,18 +1661,18 @@ analyze-met t = analyze-lts.spec (
   copy-record-reads.Learnt,
   analyze-variable-reads.Asked,
   analyze-variable-reads.Learnt,
-  walk-array-below t,
-  walk-array.Post,
+  on-array-below t,
+  on-array.Post,
   analyze-import-reads.Asked,
   analyze-import-reads.Learnt,
-  walk-local-below t,
-  walk-local.Post,
-  analyze-function-below t,
-  analyze-function.Post,
-  walk-object-below t,
-  walk-object.Post,
-  walk-plain-below t,
-  walk-plain.Post,
+  on-local-below t,
+  on-local.Post,
+  on-function-below t,
+  on-function.Post,
+  on-object-below t,
+  on-object.Post,
+  on-plain-below t,
+  on-plain.Post,
 )
     (analyze-at t)
     analyze.Post
@@ -1681,12 +1681,12 @@ analyze-met t = analyze-lts.spec (
     (analyze-add-copy-record t)
     (analyze-copy-record-requires t)
     (analyze-analyze-variable-requires t)
-    (analyze-walk-array-requires t)
+    (analyze-on-array-requires t)
     (analyze-analyze-import-requires t)
-    (analyze-walk-local-requires t)
-    (analyze-analyze-function-requires t)
-    (analyze-walk-object-requires t)
-    (analyze-walk-plain-requires t)
+    (analyze-on-local-requires t)
+    (analyze-on-function-requires t)
+    (analyze-on-object-requires t)
+    (analyze-on-plain-requires t)
     (analyze-same-length t)
     (analyze-same-length-2 t)
     (analyze-same-length-3 t)

@@ -17,9 +17,9 @@ use Rattle.joins.proofs.Asking.{fitting, references-counted, written-counted}
 use Rattle.joins.proofs.Stages.{stage-settleable, stage-body, stage-ends, function-params-there, function-stage}
 use Rattle.joins.proofs.Returns.{function-unbegun, function-params-stopped, function-body-stopped, function-ended}
 use Rattle.walkers.proofs.analyze.Reads as analyze
-use Rattle.walkers.proofs.analyze_function.Reads as analyze-function
-use Rattle.walkers.proofs.+analyze+analyze_function+analyze_obj_members+walk_array+walk_assertions+walk_bind+walk_binds+walk_fields+walk_head+walk_heads+walk_held+walk_item+walk_items+walk_local+walk_object+walk_param+walk_params+walk_plain+walk_value+walk_values.Lts-analyze_function as analyze-function-lts
-use Rattle.walkers.proofs.walk_params.Reads as walk-params
+use Rattle.walkers.proofs.on_function.Reads as on-function
+use Rattle.walkers.proofs.+analyze+on_array+on_assertions+on_bind+on_binds+on_fields+on_function+on_head+on_heads+on_held+on_item+on_items+on_local+on_members+on_object+on_param+on_params+on_plain+on_value+on_values.Lts-on_function as on-function-lts
+use Rattle.walkers.proofs.on_params.Reads as on-params
 use Rattle.closing.proofs.finish_function.Reads as finish-function-reads
 use Rattle.closing.proofs.settle_frame.Reads as settle-frame-reads
 use Rattle.opening.proofs.begin_function.Reads as begin-function-reads
@@ -27,15 +27,15 @@ use Rattle.opening.proofs.deeper.Reads as deeper-reads
 use Rattle.packed.proofs.number_at.Reads as number-at-reads
 use Rattle.walkers.proofs.first_defaults.Reads as first-defaults-reads
 use Rattle.walkers.proofs.not_kept.Reads as not-kept-reads
-use Rattle.walkers.proofs.+analyze+analyze_function+analyze_obj_members+walk_array+walk_assertions+walk_bind+walk_binds+walk_fields+walk_head+walk_heads+walk_held+walk_item+walk_items+walk_local+walk_object+walk_param+walk_params+walk_plain+walk_value+walk_values.Proof.Measures.{analyze-below, analyze-function-at, walk-params-below}
+use Rattle.walkers.proofs.+analyze+on_array+on_assertions+on_bind+on_binds+on_fields+on_function+on_head+on_heads+on_held+on_item+on_items+on_local+on_members+on_object+on_param+on_params+on_plain+on_value+on_values.Proof.Measures.{analyze-below, on-function-at, on-params-below}
 
-analyze-function-add-number-at : (t : ℕ) → analyze-function-lts.Need-add-number-at (
+on-function-add-number-at : (t : ℕ) → on-function-lts.Need-add-number-at (
   number-at-reads.Asked,
   number-at-reads.Learnt,
   begin-function-reads.Asked,
   begin-function-reads.Learnt,
-  walk-params-below t,
-  walk-params.Post,
+  on-params-below t,
+  on-params.Post,
   not-kept-reads.Asked,
   not-kept-reads.Learnt,
   settle-frame-reads.Asked,
@@ -48,19 +48,19 @@ analyze-function-add-number-at : (t : ℕ) → analyze-function-lts.Need-add-num
   first-defaults-reads.Learnt,
   finish-function-reads.Asked,
   finish-function-reads.Learnt,
-) (analyze-function-at t) analyze-function.Post
-analyze-function-add-number-at t c =
+) (on-function-at t) on-function.Post
+on-function-add-number-at t c =
     let args· = c .before .before .before .before .before .before .before .args in
     let pre· = c .before .before .before .before .before .before .before .pre in
     omega (arith, (function-size (args· .tree .now) (args· .nest) (args· .at) ((pre· .1 .1) .read) ((pre· .1 .1) .marked)), (pre· .1 .0) .short)
 
-analyze-function-number-at-requires : (t : ℕ) → analyze-function-lts.Need-number-at-requires (
+on-function-number-at-requires : (t : ℕ) → on-function-lts.Need-number-at-requires (
   number-at-reads.Asked,
   number-at-reads.Learnt,
   begin-function-reads.Asked,
   begin-function-reads.Learnt,
-  walk-params-below t,
-  walk-params.Post,
+  on-params-below t,
+  on-params.Post,
   not-kept-reads.Asked,
   not-kept-reads.Learnt,
   settle-frame-reads.Asked,
@@ -73,17 +73,17 @@ analyze-function-number-at-requires : (t : ℕ) → analyze-function-lts.Need-nu
   first-defaults-reads.Learnt,
   finish-function-reads.Asked,
   finish-function-reads.Learnt,
-) (analyze-function-at t) analyze-function.Post
-analyze-function-number-at-requires t c κs = search needs
+) (on-function-at t) on-function.Post
+on-function-number-at-requires t c κs = search needs
 
-analyze-function-begin-function-requires :
-    (t : ℕ) → analyze-function-lts.Need-begin-function-requires (
+on-function-begin-function-requires :
+    (t : ℕ) → on-function-lts.Need-begin-function-requires (
       number-at-reads.Asked,
       number-at-reads.Learnt,
       begin-function-reads.Asked,
       begin-function-reads.Learnt,
-      walk-params-below t,
-      walk-params.Post,
+      on-params-below t,
+      on-params.Post,
       not-kept-reads.Asked,
       not-kept-reads.Learnt,
       settle-frame-reads.Asked,
@@ -96,20 +96,20 @@ analyze-function-begin-function-requires :
       first-defaults-reads.Learnt,
       finish-function-reads.Asked,
       finish-function-reads.Learnt,
-    ) (analyze-function-at t) analyze-function.Post
-analyze-function-begin-function-requires t c κs =
+    ) (on-function-at t) on-function.Post
+on-function-begin-function-requires t c κs =
     let args· = c .before .before .before .before .before .before .before .before .before .before .before .args in
     let pre· = c .before .before .before .before .before .before .before .before .before .before .before .pre in
     let number-at· = c .before .before .before .number-at in
     (record { levels = (args· .nest) - 1; read = (function-params-there (pre· .1 .0) (pre· .1 .1) (number-at· .ensures)) }, (function-size (args· .tree .now) (args· .nest) (args· .at) ((pre· .1 .1) .read) ((pre· .1 .1) .marked)), omega (arith, (pre· .1 .0) .short), fitting ((pre· .1 .0) .fit))
 
-analyze-function-enum-known-begun : (t : ℕ) → analyze-function-lts.Need-enum-known-begun (
+on-function-enum-known-begun : (t : ℕ) → on-function-lts.Need-enum-known-begun (
   number-at-reads.Asked,
   number-at-reads.Learnt,
   begin-function-reads.Asked,
   begin-function-reads.Learnt,
-  walk-params-below t,
-  walk-params.Post,
+  on-params-below t,
+  on-params.Post,
   not-kept-reads.Asked,
   not-kept-reads.Learnt,
   settle-frame-reads.Asked,
@@ -122,16 +122,16 @@ analyze-function-enum-known-begun : (t : ℕ) → analyze-function-lts.Need-enum
   first-defaults-reads.Learnt,
   finish-function-reads.Asked,
   finish-function-reads.Learnt,
-) (analyze-function-at t) analyze-function.Post
-analyze-function-enum-known-begun t c = search needs
+) (on-function-at t) on-function.Post
+on-function-enum-known-begun t c = search needs
 
-analyze-function-enum-told : (t : ℕ) → analyze-function-lts.Need-enum-told (
+on-function-enum-told : (t : ℕ) → on-function-lts.Need-enum-told (
   number-at-reads.Asked,
   number-at-reads.Learnt,
   begin-function-reads.Asked,
   begin-function-reads.Learnt,
-  walk-params-below t,
-  walk-params.Post,
+  on-params-below t,
+  on-params.Post,
   not-kept-reads.Asked,
   not-kept-reads.Learnt,
   settle-frame-reads.Asked,
@@ -144,16 +144,16 @@ analyze-function-enum-told : (t : ℕ) → analyze-function-lts.Need-enum-told (
   first-defaults-reads.Learnt,
   finish-function-reads.Asked,
   finish-function-reads.Learnt,
-) (analyze-function-at t) analyze-function.Post
-analyze-function-enum-told t c = search needs
+) (on-function-at t) on-function.Post
+on-function-enum-told t c = search needs
 
-analyze-function-same-length : (t : ℕ) → analyze-function-lts.Need-same-length (
+on-function-same-length : (t : ℕ) → on-function-lts.Need-same-length (
   number-at-reads.Asked,
   number-at-reads.Learnt,
   begin-function-reads.Asked,
   begin-function-reads.Learnt,
-  walk-params-below t,
-  walk-params.Post,
+  on-params-below t,
+  on-params.Post,
   not-kept-reads.Asked,
   not-kept-reads.Learnt,
   settle-frame-reads.Asked,
@@ -166,16 +166,16 @@ analyze-function-same-length : (t : ℕ) → analyze-function-lts.Need-same-leng
   first-defaults-reads.Learnt,
   finish-function-reads.Asked,
   finish-function-reads.Learnt,
-) (analyze-function-at t) analyze-function.Post
-analyze-function-same-length t c = c .before .before .before .before .before .before .before .before .begin-function .kept .1 .0
+) (on-function-at t) on-function.Post
+on-function-same-length t c = c .before .before .before .before .before .before .before .before .begin-function .kept .1 .0
 
-analyze-function-same-length-2 : (t : ℕ) → analyze-function-lts.Need-same-length-2 (
+on-function-same-length-2 : (t : ℕ) → on-function-lts.Need-same-length-2 (
   number-at-reads.Asked,
   number-at-reads.Learnt,
   begin-function-reads.Asked,
   begin-function-reads.Learnt,
-  walk-params-below t,
-  walk-params.Post,
+  on-params-below t,
+  on-params.Post,
   not-kept-reads.Asked,
   not-kept-reads.Learnt,
   settle-frame-reads.Asked,
@@ -188,16 +188,16 @@ analyze-function-same-length-2 : (t : ℕ) → analyze-function-lts.Need-same-le
   first-defaults-reads.Learnt,
   finish-function-reads.Asked,
   finish-function-reads.Learnt,
-) (analyze-function-at t) analyze-function.Post
-analyze-function-same-length-2 t c = c .before .before .before .before .before .before .before .before .begin-function .kept .1 .1 .0
+) (on-function-at t) on-function.Post
+on-function-same-length-2 t c = c .before .before .before .before .before .before .before .before .begin-function .kept .1 .1 .0
 
-analyze-function-same-length-3 : (t : ℕ) → analyze-function-lts.Need-same-length-3 (
+on-function-same-length-3 : (t : ℕ) → on-function-lts.Need-same-length-3 (
   number-at-reads.Asked,
   number-at-reads.Learnt,
   begin-function-reads.Asked,
   begin-function-reads.Learnt,
-  walk-params-below t,
-  walk-params.Post,
+  on-params-below t,
+  on-params.Post,
   not-kept-reads.Asked,
   not-kept-reads.Learnt,
   settle-frame-reads.Asked,
@@ -210,16 +210,16 @@ analyze-function-same-length-3 : (t : ℕ) → analyze-function-lts.Need-same-le
   first-defaults-reads.Learnt,
   finish-function-reads.Asked,
   finish-function-reads.Learnt,
-) (analyze-function-at t) analyze-function.Post
-analyze-function-same-length-3 t c = c .before .before .before .before .before .before .before .before .begin-function .kept .1 .1 .1 .0
+) (on-function-at t) on-function.Post
+on-function-same-length-3 t c = c .before .before .before .before .before .before .before .before .begin-function .kept .1 .1 .1 .0
 
-analyze-function-returns : (t : ℕ) → analyze-function-lts.Need-returns (
+on-function-returns : (t : ℕ) → on-function-lts.Need-returns (
   number-at-reads.Asked,
   number-at-reads.Learnt,
   begin-function-reads.Asked,
   begin-function-reads.Learnt,
-  walk-params-below t,
-  walk-params.Post,
+  on-params-below t,
+  on-params.Post,
   not-kept-reads.Asked,
   not-kept-reads.Learnt,
   settle-frame-reads.Asked,
@@ -232,9 +232,9 @@ analyze-function-returns : (t : ℕ) → analyze-function-lts.Need-returns (
   first-defaults-reads.Learnt,
   finish-function-reads.Asked,
   finish-function-reads.Learnt,
-) (analyze-function-at t) analyze-function.Post
+) (on-function-at t) on-function.Post
 unfolding place-of naming-of
-analyze-function-returns t c =
+on-function-returns t c =
     let args· = c .before .before .before .before .before .before .before .before .before .before .before .before .before .before .before .before .before .before .before .before .args in
     let pre· = c .before .before .before .before .before .before .before .before .before .before .before .before .before .before .before .before .before .before .before .before .pre in
     let number-at· = c .before .before .before .before .before .before .before .before .before .before .before .before .number-at in
@@ -242,13 +242,13 @@ analyze-function-returns t c =
     let enum-told· = c .enum-told in
     function-unbegun (args· .tree .now) (args· .nest) (args· .at) (pre· .1 .1) (naming-of (args· .naming)) (place-of (args· .here)) (number-at· .ensures) (begin-function· .ensures .begun ((args· .nest) - 1) (function-params-there (pre· .1 .0) (pre· .1 .1) (number-at· .ensures)) _ _ _ ((pre· .1 .0) .fit)) (enum-told· .given .1)
 
-analyze-function-add-walk-params : (t : ℕ) → analyze-function-lts.Need-add-walk-params (
+on-function-add-on-params : (t : ℕ) → on-function-lts.Need-add-on-params (
   number-at-reads.Asked,
   number-at-reads.Learnt,
   begin-function-reads.Asked,
   begin-function-reads.Learnt,
-  walk-params-below t,
-  walk-params.Post,
+  on-params-below t,
+  on-params.Post,
   not-kept-reads.Asked,
   not-kept-reads.Learnt,
   settle-frame-reads.Asked,
@@ -261,19 +261,19 @@ analyze-function-add-walk-params : (t : ℕ) → analyze-function-lts.Need-add-w
   first-defaults-reads.Learnt,
   finish-function-reads.Asked,
   finish-function-reads.Learnt,
-) (analyze-function-at t) analyze-function.Post
-analyze-function-add-walk-params t c =
+) (on-function-at t) on-function.Post
+on-function-add-on-params t c =
     let args· = c .before .before .before .before .before .before .before .before .before .before .before .before .before .before .before .before .before .before .before .before .before .before .before .before .before .before .before .args in
     let pre· = c .before .before .before .before .before .before .before .before .before .before .before .before .before .before .before .before .before .before .before .before .before .before .before .before .before .before .before .pre in
     omega (arith, (function-size (args· .tree .now) (args· .nest) (args· .at) ((pre· .1 .1) .read) ((pre· .1 .1) .marked)), (pre· .1 .0) .short)
 
-analyze-function-sub-walk-params : (t : ℕ) → analyze-function-lts.Need-sub-walk-params (
+on-function-sub-on-params : (t : ℕ) → on-function-lts.Need-sub-on-params (
   number-at-reads.Asked,
   number-at-reads.Learnt,
   begin-function-reads.Asked,
   begin-function-reads.Learnt,
-  walk-params-below t,
-  walk-params.Post,
+  on-params-below t,
+  on-params.Post,
   not-kept-reads.Asked,
   not-kept-reads.Learnt,
   settle-frame-reads.Asked,
@@ -286,19 +286,19 @@ analyze-function-sub-walk-params : (t : ℕ) → analyze-function-lts.Need-sub-w
   first-defaults-reads.Learnt,
   finish-function-reads.Asked,
   finish-function-reads.Learnt,
-) (analyze-function-at t) analyze-function.Post
-analyze-function-sub-walk-params t c =
+) (on-function-at t) on-function.Post
+on-function-sub-on-params t c =
     let args· = c .before .before .before .before .before .before .before .before .before .before .before .before .before .before .before .before .before .before .before .before .before .before .before .before .before .before .before .args in
     let pre· = c .before .before .before .before .before .before .before .before .before .before .before .before .before .before .before .before .before .before .before .before .before .before .before .before .before .before .before .pre in
     omega (arith, (expr-level (args· .tree .now) (args· .nest) any-expression (args· .at) ((pre· .1 .1) .read)))
 
-analyze-function-walk-params-requires : (t : ℕ) → analyze-function-lts.Need-walk-params-requires (
+on-function-on-params-requires : (t : ℕ) → on-function-lts.Need-on-params-requires (
   number-at-reads.Asked,
   number-at-reads.Learnt,
   begin-function-reads.Asked,
   begin-function-reads.Learnt,
-  walk-params-below t,
-  walk-params.Post,
+  on-params-below t,
+  on-params.Post,
   not-kept-reads.Asked,
   not-kept-reads.Learnt,
   settle-frame-reads.Asked,
@@ -311,9 +311,9 @@ analyze-function-walk-params-requires : (t : ℕ) → analyze-function-lts.Need-
   first-defaults-reads.Learnt,
   finish-function-reads.Asked,
   finish-function-reads.Learnt,
-) (analyze-function-at t) analyze-function.Post
+) (on-function-at t) on-function.Post
 unfolding place-of naming-of
-analyze-function-walk-params-requires t c κs =
+on-function-on-params-requires t c κs =
     let pre· = c .before .before .before .before .before .before .before .before .before .before .before .before .before .before .before .before .before .before .before .before .before .before .before .before .before .before .before .pre in
     let args· = c .before .before .before .before .before .before .before .before .before .before .before .before .before .before .before .before .before .before .before .before .before .before .before .before .before .before .before .args in
     let begin-function· = c .before .before .before .before .before .before .before .before .before .before .before .before .before .before .before .begin-function in
@@ -321,13 +321,13 @@ analyze-function-walk-params-requires t c κs =
     let begun· = c .before .before .before .before .before .before .before .begun in
     (omega (arith, pre· .0, (expr-level (args· .tree .now) (args· .nest) any-expression (args· .at) ((pre· .1 .1) .read))), ((ready-on (omega arith) (omega arith) (ready-function ((args· .nest) - 1) _ ((args· .here) .depth) (pre· .1 .0) (begin-function· .ensures .begun ((args· .nest) - 1) (function-params-there (pre· .1 .0) (pre· .1 .1) (number-at· .ensures)) _ _ _ ((pre· .1 .0) .fit)) (begun· .given .1))), (function-params-there (pre· .1 .0) (pre· .1 .1) (number-at· .ensures))))
 
-analyze-function-enum-known-specs : (t : ℕ) → analyze-function-lts.Need-enum-known-specs (
+on-function-enum-known-specs : (t : ℕ) → on-function-lts.Need-enum-known-specs (
   number-at-reads.Asked,
   number-at-reads.Learnt,
   begin-function-reads.Asked,
   begin-function-reads.Learnt,
-  walk-params-below t,
-  walk-params.Post,
+  on-params-below t,
+  on-params.Post,
   not-kept-reads.Asked,
   not-kept-reads.Learnt,
   settle-frame-reads.Asked,
@@ -340,16 +340,16 @@ analyze-function-enum-known-specs : (t : ℕ) → analyze-function-lts.Need-enum
   first-defaults-reads.Learnt,
   finish-function-reads.Asked,
   finish-function-reads.Learnt,
-) (analyze-function-at t) analyze-function.Post
-analyze-function-enum-known-specs t c = search needs
+) (on-function-at t) on-function.Post
+on-function-enum-known-specs t c = search needs
 
-analyze-function-enum-told-2 : (t : ℕ) → analyze-function-lts.Need-enum-told-2 (
+on-function-enum-told-2 : (t : ℕ) → on-function-lts.Need-enum-told-2 (
   number-at-reads.Asked,
   number-at-reads.Learnt,
   begin-function-reads.Asked,
   begin-function-reads.Learnt,
-  walk-params-below t,
-  walk-params.Post,
+  on-params-below t,
+  on-params.Post,
   not-kept-reads.Asked,
   not-kept-reads.Learnt,
   settle-frame-reads.Asked,
@@ -362,16 +362,16 @@ analyze-function-enum-told-2 : (t : ℕ) → analyze-function-lts.Need-enum-told
   first-defaults-reads.Learnt,
   finish-function-reads.Asked,
   finish-function-reads.Learnt,
-) (analyze-function-at t) analyze-function.Post
-analyze-function-enum-told-2 t c = search needs
+) (on-function-at t) on-function.Post
+on-function-enum-told-2 t c = search needs
 
-analyze-function-not-kept-requires : (t : ℕ) → analyze-function-lts.Need-not-kept-requires (
+on-function-not-kept-requires : (t : ℕ) → on-function-lts.Need-not-kept-requires (
   number-at-reads.Asked,
   number-at-reads.Learnt,
   begin-function-reads.Asked,
   begin-function-reads.Learnt,
-  walk-params-below t,
-  walk-params.Post,
+  on-params-below t,
+  on-params.Post,
   not-kept-reads.Asked,
   not-kept-reads.Learnt,
   settle-frame-reads.Asked,
@@ -384,16 +384,16 @@ analyze-function-not-kept-requires : (t : ℕ) → analyze-function-lts.Need-not
   first-defaults-reads.Learnt,
   finish-function-reads.Asked,
   finish-function-reads.Learnt,
-) (analyze-function-at t) analyze-function.Post
-analyze-function-not-kept-requires t c κs = search needs
+) (on-function-at t) on-function.Post
+on-function-not-kept-requires t c κs = search needs
 
-analyze-function-same-length-4 : (t : ℕ) → analyze-function-lts.Need-same-length-4 (
+on-function-same-length-4 : (t : ℕ) → on-function-lts.Need-same-length-4 (
   number-at-reads.Asked,
   number-at-reads.Learnt,
   begin-function-reads.Asked,
   begin-function-reads.Learnt,
-  walk-params-below t,
-  walk-params.Post,
+  on-params-below t,
+  on-params.Post,
   not-kept-reads.Asked,
   not-kept-reads.Learnt,
   settle-frame-reads.Asked,
@@ -406,16 +406,16 @@ analyze-function-same-length-4 : (t : ℕ) → analyze-function-lts.Need-same-le
   first-defaults-reads.Learnt,
   finish-function-reads.Asked,
   finish-function-reads.Learnt,
-) (analyze-function-at t) analyze-function.Post
-analyze-function-same-length-4 t c = c .before .before .before .before .before .before .before .before .before .before .before .before .before .before .before .walk-params .kept .1 .0
+) (on-function-at t) on-function.Post
+on-function-same-length-4 t c = c .before .before .before .before .before .before .before .before .before .before .before .before .before .before .before .on-params .kept .1 .0
 
-analyze-function-same-length-5 : (t : ℕ) → analyze-function-lts.Need-same-length-5 (
+on-function-same-length-5 : (t : ℕ) → on-function-lts.Need-same-length-5 (
   number-at-reads.Asked,
   number-at-reads.Learnt,
   begin-function-reads.Asked,
   begin-function-reads.Learnt,
-  walk-params-below t,
-  walk-params.Post,
+  on-params-below t,
+  on-params.Post,
   not-kept-reads.Asked,
   not-kept-reads.Learnt,
   settle-frame-reads.Asked,
@@ -428,16 +428,16 @@ analyze-function-same-length-5 : (t : ℕ) → analyze-function-lts.Need-same-le
   first-defaults-reads.Learnt,
   finish-function-reads.Asked,
   finish-function-reads.Learnt,
-) (analyze-function-at t) analyze-function.Post
-analyze-function-same-length-5 t c = c .before .before .before .before .before .before .before .before .before .before .before .before .before .before .before .walk-params .kept .1 .1 .0 ∙ c .before .before .before .before .before .before .before .before .before .before .before .before .before .before .before .before .before .before .before .before .before .before .before .before .before .before .before .before .before .before .before .begin-function .kept .1 .0
+) (on-function-at t) on-function.Post
+on-function-same-length-5 t c = c .before .before .before .before .before .before .before .before .before .before .before .before .before .before .before .on-params .kept .1 .1 .0 ∙ c .before .before .before .before .before .before .before .before .before .before .before .before .before .before .before .before .before .before .before .before .before .before .before .before .before .before .before .before .before .before .before .begin-function .kept .1 .0
 
-analyze-function-same-length-6 : (t : ℕ) → analyze-function-lts.Need-same-length-6 (
+on-function-same-length-6 : (t : ℕ) → on-function-lts.Need-same-length-6 (
   number-at-reads.Asked,
   number-at-reads.Learnt,
   begin-function-reads.Asked,
   begin-function-reads.Learnt,
-  walk-params-below t,
-  walk-params.Post,
+  on-params-below t,
+  on-params.Post,
   not-kept-reads.Asked,
   not-kept-reads.Learnt,
   settle-frame-reads.Asked,
@@ -450,16 +450,16 @@ analyze-function-same-length-6 : (t : ℕ) → analyze-function-lts.Need-same-le
   first-defaults-reads.Learnt,
   finish-function-reads.Asked,
   finish-function-reads.Learnt,
-) (analyze-function-at t) analyze-function.Post
-analyze-function-same-length-6 t c = c .before .before .before .before .before .before .before .before .before .before .before .before .before .before .before .walk-params .kept .1 .1 .1 .0 ∙ c .before .before .before .before .before .before .before .before .before .before .before .before .before .before .before .before .before .before .before .before .before .before .before .before .before .before .before .before .before .before .before .begin-function .kept .1 .1 .0
+) (on-function-at t) on-function.Post
+on-function-same-length-6 t c = c .before .before .before .before .before .before .before .before .before .before .before .before .before .before .before .on-params .kept .1 .1 .1 .0 ∙ c .before .before .before .before .before .before .before .before .before .before .before .before .before .before .before .before .before .before .before .before .before .before .before .before .before .before .before .before .before .before .before .begin-function .kept .1 .1 .0
 
-analyze-function-same-length-7 : (t : ℕ) → analyze-function-lts.Need-same-length-7 (
+on-function-same-length-7 : (t : ℕ) → on-function-lts.Need-same-length-7 (
   number-at-reads.Asked,
   number-at-reads.Learnt,
   begin-function-reads.Asked,
   begin-function-reads.Learnt,
-  walk-params-below t,
-  walk-params.Post,
+  on-params-below t,
+  on-params.Post,
   not-kept-reads.Asked,
   not-kept-reads.Learnt,
   settle-frame-reads.Asked,
@@ -472,16 +472,16 @@ analyze-function-same-length-7 : (t : ℕ) → analyze-function-lts.Need-same-le
   first-defaults-reads.Learnt,
   finish-function-reads.Asked,
   finish-function-reads.Learnt,
-) (analyze-function-at t) analyze-function.Post
-analyze-function-same-length-7 t c = c .before .before .before .before .before .before .before .before .before .before .before .before .before .before .before .walk-params .kept .1 .1 .1 .1 .0 ∙ c .before .before .before .before .before .before .before .before .before .before .before .before .before .before .before .before .before .before .before .before .before .before .before .before .before .before .before .before .before .before .before .begin-function .kept .1 .1 .1 .0
+) (on-function-at t) on-function.Post
+on-function-same-length-7 t c = c .before .before .before .before .before .before .before .before .before .before .before .before .before .before .before .on-params .kept .1 .1 .1 .1 .0 ∙ c .before .before .before .before .before .before .before .before .before .before .before .before .before .before .before .before .before .before .before .before .before .before .before .before .before .before .before .before .before .before .before .begin-function .kept .1 .1 .1 .0
 
-analyze-function-same-length-8 : (t : ℕ) → analyze-function-lts.Need-same-length-8 (
+on-function-same-length-8 : (t : ℕ) → on-function-lts.Need-same-length-8 (
   number-at-reads.Asked,
   number-at-reads.Learnt,
   begin-function-reads.Asked,
   begin-function-reads.Learnt,
-  walk-params-below t,
-  walk-params.Post,
+  on-params-below t,
+  on-params.Post,
   not-kept-reads.Asked,
   not-kept-reads.Learnt,
   settle-frame-reads.Asked,
@@ -494,16 +494,16 @@ analyze-function-same-length-8 : (t : ℕ) → analyze-function-lts.Need-same-le
   first-defaults-reads.Learnt,
   finish-function-reads.Asked,
   finish-function-reads.Learnt,
-) (analyze-function-at t) analyze-function.Post
-analyze-function-same-length-8 t c = c .before .before .before .before .before .before .before .before .before .before .before .before .before .before .before .walk-params .kept .1 .1 .1 .1 .1 .0
+) (on-function-at t) on-function.Post
+on-function-same-length-8 t c = c .before .before .before .before .before .before .before .before .before .before .before .before .before .before .before .on-params .kept .1 .1 .1 .1 .1 .0
 
-analyze-function-same-length-9 : (t : ℕ) → analyze-function-lts.Need-same-length-9 (
+on-function-same-length-9 : (t : ℕ) → on-function-lts.Need-same-length-9 (
   number-at-reads.Asked,
   number-at-reads.Learnt,
   begin-function-reads.Asked,
   begin-function-reads.Learnt,
-  walk-params-below t,
-  walk-params.Post,
+  on-params-below t,
+  on-params.Post,
   not-kept-reads.Asked,
   not-kept-reads.Learnt,
   settle-frame-reads.Asked,
@@ -516,16 +516,16 @@ analyze-function-same-length-9 : (t : ℕ) → analyze-function-lts.Need-same-le
   first-defaults-reads.Learnt,
   finish-function-reads.Asked,
   finish-function-reads.Learnt,
-) (analyze-function-at t) analyze-function.Post
-analyze-function-same-length-9 t c = c .before .before .before .before .before .before .before .before .before .before .before .before .before .before .before .walk-params .kept .1 .1 .1 .1 .1 .1 .0
+) (on-function-at t) on-function.Post
+on-function-same-length-9 t c = c .before .before .before .before .before .before .before .before .before .before .before .before .before .before .before .on-params .kept .1 .1 .1 .1 .1 .1 .0
 
-analyze-function-returns-2 : (t : ℕ) → analyze-function-lts.Need-returns-2 (
+on-function-returns-2 : (t : ℕ) → on-function-lts.Need-returns-2 (
   number-at-reads.Asked,
   number-at-reads.Learnt,
   begin-function-reads.Asked,
   begin-function-reads.Learnt,
-  walk-params-below t,
-  walk-params.Post,
+  on-params-below t,
+  on-params.Post,
   not-kept-reads.Asked,
   not-kept-reads.Learnt,
   settle-frame-reads.Asked,
@@ -538,26 +538,26 @@ analyze-function-returns-2 : (t : ℕ) → analyze-function-lts.Need-returns-2 (
   first-defaults-reads.Learnt,
   finish-function-reads.Asked,
   finish-function-reads.Learnt,
-) (analyze-function-at t) analyze-function.Post
+) (on-function-at t) on-function.Post
 unfolding place-of naming-of
-analyze-function-returns-2 t c =
+on-function-returns-2 t c =
     let args· = c .before .before .before .before .before .before .before .before .before .before .before .before .before .before .before .before .before .before .before .before .before .before .before .before .before .before .before .before .before .before .before .before .before .before .before .before .before .before .before .before .before .before .before .args in
     let pre· = c .before .before .before .before .before .before .before .before .before .before .before .before .before .before .before .before .before .before .before .before .before .before .before .before .before .before .before .before .before .before .before .before .before .before .before .before .before .before .before .before .before .before .before .pre in
     let number-at· = c .before .before .before .before .before .before .before .before .before .before .before .before .before .before .before .before .before .before .before .before .before .before .before .before .before .before .before .before .before .before .before .before .before .before .before .number-at in
     let begin-function· = c .before .before .before .before .before .before .before .before .before .before .before .before .before .before .before .before .before .before .before .before .before .before .before .before .before .before .before .before .before .before .before .begin-function in
     let begun· = c .before .before .before .before .before .before .before .before .before .before .before .before .before .before .before .before .before .before .before .before .before .before .before .begun in
-    let walk-params· = c .before .before .before .before .before .before .before .before .before .before .before .before .before .before .before .walk-params in
+    let on-params· = c .before .before .before .before .before .before .before .before .before .before .before .before .before .before .before .on-params in
     let enum-told2· = c .before .enum-told2 in
     let not-kept· = c .not-kept in
-    function-params-stopped (args· .tree .now) (args· .nest) (args· .at) (pre· .1 .1) (naming-of (args· .naming)) (place-of (args· .here)) (number-at· .ensures) (begin-function· .ensures .begun ((args· .nest) - 1) (function-params-there (pre· .1 .0) (pre· .1 .1) (number-at· .ensures)) _ _ _ ((pre· .1 .0) .fit)) (begun· .given .1) (record { out = refl; diagnostics = begin-function· .kept .1 .0 }) (walk-params· .ensures) (enum-told2· .given .1) (unkept (not-kept· .ensures) (enum-told2· .given .1))
+    function-params-stopped (args· .tree .now) (args· .nest) (args· .at) (pre· .1 .1) (naming-of (args· .naming)) (place-of (args· .here)) (number-at· .ensures) (begin-function· .ensures .begun ((args· .nest) - 1) (function-params-there (pre· .1 .0) (pre· .1 .1) (number-at· .ensures)) _ _ _ ((pre· .1 .0) .fit)) (begun· .given .1) (record { out = refl; diagnostics = begin-function· .kept .1 .0 }) (on-params· .ensures) (enum-told2· .given .1) (unkept (not-kept· .ensures) (enum-told2· .given .1))
 
-analyze-function-settle-frame-requires : (t : ℕ) → analyze-function-lts.Need-settle-frame-requires (
+on-function-settle-frame-requires : (t : ℕ) → on-function-lts.Need-settle-frame-requires (
   number-at-reads.Asked,
   number-at-reads.Learnt,
   begin-function-reads.Asked,
   begin-function-reads.Learnt,
-  walk-params-below t,
-  walk-params.Post,
+  on-params-below t,
+  on-params.Post,
   not-kept-reads.Asked,
   not-kept-reads.Learnt,
   settle-frame-reads.Asked,
@@ -570,25 +570,25 @@ analyze-function-settle-frame-requires : (t : ℕ) → analyze-function-lts.Need
   first-defaults-reads.Learnt,
   finish-function-reads.Asked,
   finish-function-reads.Learnt,
-) (analyze-function-at t) analyze-function.Post
+) (on-function-at t) on-function.Post
 unfolding place-of naming-of
-analyze-function-settle-frame-requires t c κs =
+on-function-settle-frame-requires t c κs =
     let pre· = c .before .before .before .before .before .before .before .before .before .before .before .before .before .before .before .before .before .before .before .before .before .before .before .before .before .before .before .before .before .before .before .before .before .before .before .before .before .before .before .before .before .before .before .before .before .pre in
     let number-at· = c .before .before .before .before .before .before .before .before .before .before .before .before .before .before .before .before .before .before .before .before .before .before .before .before .before .before .before .before .before .before .before .before .before .before .before .before .before .number-at in
     let begin-function· = c .before .before .before .before .before .before .before .before .before .before .before .before .before .before .before .before .before .before .before .before .before .before .before .before .before .before .before .before .before .before .before .before .before .begin-function in
     let args· = c .before .before .before .before .before .before .before .before .before .before .before .before .before .before .before .before .before .before .before .before .before .before .before .before .before .before .before .before .before .before .before .before .before .before .before .before .before .before .before .before .before .before .before .before .before .args in
     let begun· = c .before .before .before .before .before .before .before .before .before .before .before .before .before .before .before .before .before .before .before .before .before .before .before .before .before .begun in
-    let walk-params· = c .before .before .before .before .before .before .before .before .before .before .before .before .before .before .before .before .before .walk-params in
+    let on-params· = c .before .before .before .before .before .before .before .before .before .before .before .before .before .before .before .before .before .on-params in
     let specs· = c .before .before .before .specs in
-    stage-settleable (function-stage (pre· .1 .0) (pre· .1 .1) (number-at· .ensures) (begin-function· .ensures .begun ((args· .nest) - 1) (function-params-there (pre· .1 .0) (pre· .1 .1) (number-at· .ensures)) _ _ _ ((pre· .1 .0) .fit)) (begun· .given .1) (walk-params· .ensures) (specs· .given .1))
+    stage-settleable (function-stage (pre· .1 .0) (pre· .1 .1) (number-at· .ensures) (begin-function· .ensures .begun ((args· .nest) - 1) (function-params-there (pre· .1 .0) (pre· .1 .1) (number-at· .ensures)) _ _ _ ((pre· .1 .0) .fit)) (begun· .given .1) (on-params· .ensures) (specs· .given .1))
 
-analyze-function-sub-analyze : (t : ℕ) → analyze-function-lts.Need-sub-analyze (
+on-function-sub-analyze : (t : ℕ) → on-function-lts.Need-sub-analyze (
   number-at-reads.Asked,
   number-at-reads.Learnt,
   begin-function-reads.Asked,
   begin-function-reads.Learnt,
-  walk-params-below t,
-  walk-params.Post,
+  on-params-below t,
+  on-params.Post,
   not-kept-reads.Asked,
   not-kept-reads.Learnt,
   settle-frame-reads.Asked,
@@ -601,19 +601,19 @@ analyze-function-sub-analyze : (t : ℕ) → analyze-function-lts.Need-sub-analy
   first-defaults-reads.Learnt,
   finish-function-reads.Asked,
   finish-function-reads.Learnt,
-) (analyze-function-at t) analyze-function.Post
-analyze-function-sub-analyze t c =
+) (on-function-at t) on-function.Post
+on-function-sub-analyze t c =
     let args· = c .before .before .before .before .before .before .before .before .before .before .before .before .before .before .before .before .before .before .before .before .before .before .before .before .before .before .before .before .before .before .before .before .before .before .before .before .before .before .before .before .before .before .before .before .before .before .before .before .before .before .before .before .before .before .args in
     let pre· = c .before .before .before .before .before .before .before .before .before .before .before .before .before .before .before .before .before .before .before .before .before .before .before .before .before .before .before .before .before .before .before .before .before .before .before .before .before .before .before .before .before .before .before .before .before .before .before .before .before .before .before .before .before .before .pre in
     omega (arith, (expr-level (args· .tree .now) (args· .nest) any-expression (args· .at) ((pre· .1 .1) .read)))
 
-analyze-function-deeper-requires : (t : ℕ) → analyze-function-lts.Need-deeper-requires (
+on-function-deeper-requires : (t : ℕ) → on-function-lts.Need-deeper-requires (
   number-at-reads.Asked,
   number-at-reads.Learnt,
   begin-function-reads.Asked,
   begin-function-reads.Learnt,
-  walk-params-below t,
-  walk-params.Post,
+  on-params-below t,
+  on-params.Post,
   not-kept-reads.Asked,
   not-kept-reads.Learnt,
   settle-frame-reads.Asked,
@@ -626,18 +626,18 @@ analyze-function-deeper-requires : (t : ℕ) → analyze-function-lts.Need-deepe
   first-defaults-reads.Learnt,
   finish-function-reads.Asked,
   finish-function-reads.Learnt,
-) (analyze-function-at t) analyze-function.Post
-analyze-function-deeper-requires t c κs =
+) (on-function-at t) on-function.Post
+on-function-deeper-requires t c κs =
     let pre· = c .before .before .before .before .before .before .before .before .before .before .before .before .before .before .before .before .before .before .before .before .before .before .before .before .before .before .before .before .before .before .before .before .before .before .before .before .before .before .before .before .before .before .before .before .before .before .before .before .before .before .before .before .before .before .pre in
     omega (arith, (pre· .1 .0) .shallow)
 
-analyze-function-analyze-requires : (t : ℕ) → analyze-function-lts.Need-analyze-requires (
+on-function-analyze-requires : (t : ℕ) → on-function-lts.Need-analyze-requires (
   number-at-reads.Asked,
   number-at-reads.Learnt,
   begin-function-reads.Asked,
   begin-function-reads.Learnt,
-  walk-params-below t,
-  walk-params.Post,
+  on-params-below t,
+  on-params.Post,
   not-kept-reads.Asked,
   not-kept-reads.Learnt,
   settle-frame-reads.Asked,
@@ -650,27 +650,27 @@ analyze-function-analyze-requires : (t : ℕ) → analyze-function-lts.Need-anal
   first-defaults-reads.Learnt,
   finish-function-reads.Asked,
   finish-function-reads.Learnt,
-) (analyze-function-at t) analyze-function.Post
+) (on-function-at t) on-function.Post
 unfolding place-of naming-of
-analyze-function-analyze-requires t c κs =
+on-function-analyze-requires t c κs =
     let pre· = c .before .before .before .before .before .before .before .before .before .before .before .before .before .before .before .before .before .before .before .before .before .before .before .before .before .before .before .before .before .before .before .before .before .before .before .before .before .before .before .before .before .before .before .before .before .before .before .before .before .before .before .before .before .before .before .pre in
     let args· = c .before .before .before .before .before .before .before .before .before .before .before .before .before .before .before .before .before .before .before .before .before .before .before .before .before .before .before .before .before .before .before .before .before .before .before .before .before .before .before .before .before .before .before .before .before .before .before .before .before .before .before .before .before .before .before .args in
     let number-at· = c .before .before .before .before .before .before .before .before .before .before .before .before .before .before .before .before .before .before .before .before .before .before .before .before .before .before .before .before .before .before .before .before .before .before .before .before .before .before .before .before .before .before .before .before .before .before .before .number-at in
     let begin-function· = c .before .before .before .before .before .before .before .before .before .before .before .before .before .before .before .before .before .before .before .before .before .before .before .before .before .before .before .before .before .before .before .before .before .before .before .before .before .before .before .before .before .before .before .begin-function in
     let begun· = c .before .before .before .before .before .before .before .before .before .before .before .before .before .before .before .before .before .before .before .before .before .before .before .before .before .before .before .before .before .before .before .before .before .before .before .begun in
-    let walk-params· = c .before .before .before .before .before .before .before .before .before .before .before .before .before .before .before .before .before .before .before .before .before .before .before .before .before .before .before .walk-params in
+    let on-params· = c .before .before .before .before .before .before .before .before .before .before .before .before .before .before .before .before .before .before .before .before .before .before .before .before .before .before .before .on-params in
     let specs· = c .before .before .before .before .before .before .before .before .before .before .before .before .before .specs in
     let settle-frame· = c .before .before .before .before .before .before .before .before .before .settle-frame in
     let deeper· = c .deeper in
-    (omega (arith, pre· .0, (expr-level (args· .tree .now) (args· .nest) any-expression (args· .at) ((pre· .1 .1) .read))), (stage-body (function-stage (pre· .1 .0) (pre· .1 .1) (number-at· .ensures) (begin-function· .ensures .begun ((args· .nest) - 1) (function-params-there (pre· .1 .0) (pre· .1 .1) (number-at· .ensures)) _ _ _ ((pre· .1 .0) .fit)) (begun· .given .1) (walk-params· .ensures) (specs· .given .1)) (settle-frame· .ensures .becomes _ _ _ _ _ (kept-fit (walk-params· .ensures) (specs· .given .1))) _ (expr-level (args· .tree .now) (args· .nest) any-expression (args· .at) ((pre· .1 .1) .read)) (deeper· .ensures .same) (deeper· .ensures .depth), (function-stage (pre· .1 .0) (pre· .1 .1) (number-at· .ensures) (begin-function· .ensures .begun ((args· .nest) - 1) (function-params-there (pre· .1 .0) (pre· .1 .1) (number-at· .ensures)) _ _ _ ((pre· .1 .0) .fit)) (begun· .given .1) (walk-params· .ensures) (specs· .given .1)) .body))
+    (omega (arith, pre· .0, (expr-level (args· .tree .now) (args· .nest) any-expression (args· .at) ((pre· .1 .1) .read))), (stage-body (function-stage (pre· .1 .0) (pre· .1 .1) (number-at· .ensures) (begin-function· .ensures .begun ((args· .nest) - 1) (function-params-there (pre· .1 .0) (pre· .1 .1) (number-at· .ensures)) _ _ _ ((pre· .1 .0) .fit)) (begun· .given .1) (on-params· .ensures) (specs· .given .1)) (settle-frame· .ensures .becomes _ _ _ _ _ (kept-fit (on-params· .ensures) (specs· .given .1))) _ (expr-level (args· .tree .now) (args· .nest) any-expression (args· .at) ((pre· .1 .1) .read)) (deeper· .ensures .same) (deeper· .ensures .depth), (function-stage (pre· .1 .0) (pre· .1 .1) (number-at· .ensures) (begin-function· .ensures .begun ((args· .nest) - 1) (function-params-there (pre· .1 .0) (pre· .1 .1) (number-at· .ensures)) _ _ _ ((pre· .1 .0) .fit)) (begun· .given .1) (on-params· .ensures) (specs· .given .1)) .body))
 
-analyze-function-enum-known-w : (t : ℕ) → analyze-function-lts.Need-enum-known-w (
+on-function-enum-known-w : (t : ℕ) → on-function-lts.Need-enum-known-w (
   number-at-reads.Asked,
   number-at-reads.Learnt,
   begin-function-reads.Asked,
   begin-function-reads.Learnt,
-  walk-params-below t,
-  walk-params.Post,
+  on-params-below t,
+  on-params.Post,
   not-kept-reads.Asked,
   not-kept-reads.Learnt,
   settle-frame-reads.Asked,
@@ -683,16 +683,16 @@ analyze-function-enum-known-w : (t : ℕ) → analyze-function-lts.Need-enum-kno
   first-defaults-reads.Learnt,
   finish-function-reads.Asked,
   finish-function-reads.Learnt,
-) (analyze-function-at t) analyze-function.Post
-analyze-function-enum-known-w t c = search needs
+) (on-function-at t) on-function.Post
+on-function-enum-known-w t c = search needs
 
-analyze-function-enum-told-3 : (t : ℕ) → analyze-function-lts.Need-enum-told-3 (
+on-function-enum-told-3 : (t : ℕ) → on-function-lts.Need-enum-told-3 (
   number-at-reads.Asked,
   number-at-reads.Learnt,
   begin-function-reads.Asked,
   begin-function-reads.Learnt,
-  walk-params-below t,
-  walk-params.Post,
+  on-params-below t,
+  on-params.Post,
   not-kept-reads.Asked,
   not-kept-reads.Learnt,
   settle-frame-reads.Asked,
@@ -705,16 +705,16 @@ analyze-function-enum-told-3 : (t : ℕ) → analyze-function-lts.Need-enum-told
   first-defaults-reads.Learnt,
   finish-function-reads.Asked,
   finish-function-reads.Learnt,
-) (analyze-function-at t) analyze-function.Post
-analyze-function-enum-told-3 t c = search needs
+) (on-function-at t) on-function.Post
+on-function-enum-told-3 t c = search needs
 
-analyze-function-same-length-10 : (t : ℕ) → analyze-function-lts.Need-same-length-10 (
+on-function-same-length-10 : (t : ℕ) → on-function-lts.Need-same-length-10 (
   number-at-reads.Asked,
   number-at-reads.Learnt,
   begin-function-reads.Asked,
   begin-function-reads.Learnt,
-  walk-params-below t,
-  walk-params.Post,
+  on-params-below t,
+  on-params.Post,
   not-kept-reads.Asked,
   not-kept-reads.Learnt,
   settle-frame-reads.Asked,
@@ -727,16 +727,16 @@ analyze-function-same-length-10 : (t : ℕ) → analyze-function-lts.Need-same-l
   first-defaults-reads.Learnt,
   finish-function-reads.Asked,
   finish-function-reads.Learnt,
-) (analyze-function-at t) analyze-function.Post
-analyze-function-same-length-10 t c = c .before .before .before .before .before .before .before .before .before .before .before .before .before .before .analyze .kept .1 .0 ∙ c .before .before .before .before .before .before .before .before .before .before .before .before .before .before .before .before .before .before .before .before .before .before .before .before .before .before .before .before .before .before .before .before .before .before .before .before .before .before .before .before .before .before .walk-params .kept .1 .0
+) (on-function-at t) on-function.Post
+on-function-same-length-10 t c = c .before .before .before .before .before .before .before .before .before .before .before .before .before .before .analyze .kept .1 .0 ∙ c .before .before .before .before .before .before .before .before .before .before .before .before .before .before .before .before .before .before .before .before .before .before .before .before .before .before .before .before .before .before .before .before .before .before .before .before .before .before .before .before .before .before .on-params .kept .1 .0
 
-analyze-function-same-length-11 : (t : ℕ) → analyze-function-lts.Need-same-length-11 (
+on-function-same-length-11 : (t : ℕ) → on-function-lts.Need-same-length-11 (
   number-at-reads.Asked,
   number-at-reads.Learnt,
   begin-function-reads.Asked,
   begin-function-reads.Learnt,
-  walk-params-below t,
-  walk-params.Post,
+  on-params-below t,
+  on-params.Post,
   not-kept-reads.Asked,
   not-kept-reads.Learnt,
   settle-frame-reads.Asked,
@@ -749,16 +749,16 @@ analyze-function-same-length-11 : (t : ℕ) → analyze-function-lts.Need-same-l
   first-defaults-reads.Learnt,
   finish-function-reads.Asked,
   finish-function-reads.Learnt,
-) (analyze-function-at t) analyze-function.Post
-analyze-function-same-length-11 t c = c .before .before .before .before .before .before .before .before .before .before .before .before .before .before .analyze .kept .1 .1 .0 ∙ c .before .before .before .before .before .before .before .before .before .before .before .before .before .before .before .before .before .before .before .before .before .before .before .before .before .before .before .before .before .before .before .before .before .before .before .before .before .before .before .before .before .before .walk-params .kept .1 .1 .0 ∙ c .before .before .before .before .before .before .before .before .before .before .before .before .before .before .before .before .before .before .before .before .before .before .before .before .before .before .before .before .before .before .before .before .before .before .before .before .before .before .before .before .before .before .before .before .before .before .before .before .before .before .before .before .before .before .before .before .before .before .begin-function .kept .1 .0
+) (on-function-at t) on-function.Post
+on-function-same-length-11 t c = c .before .before .before .before .before .before .before .before .before .before .before .before .before .before .analyze .kept .1 .1 .0 ∙ c .before .before .before .before .before .before .before .before .before .before .before .before .before .before .before .before .before .before .before .before .before .before .before .before .before .before .before .before .before .before .before .before .before .before .before .before .before .before .before .before .before .before .on-params .kept .1 .1 .0 ∙ c .before .before .before .before .before .before .before .before .before .before .before .before .before .before .before .before .before .before .before .before .before .before .before .before .before .before .before .before .before .before .before .before .before .before .before .before .before .before .before .before .before .before .before .before .before .before .before .before .before .before .before .before .before .before .before .before .before .before .begin-function .kept .1 .0
 
-analyze-function-same-length-12 : (t : ℕ) → analyze-function-lts.Need-same-length-12 (
+on-function-same-length-12 : (t : ℕ) → on-function-lts.Need-same-length-12 (
   number-at-reads.Asked,
   number-at-reads.Learnt,
   begin-function-reads.Asked,
   begin-function-reads.Learnt,
-  walk-params-below t,
-  walk-params.Post,
+  on-params-below t,
+  on-params.Post,
   not-kept-reads.Asked,
   not-kept-reads.Learnt,
   settle-frame-reads.Asked,
@@ -771,16 +771,16 @@ analyze-function-same-length-12 : (t : ℕ) → analyze-function-lts.Need-same-l
   first-defaults-reads.Learnt,
   finish-function-reads.Asked,
   finish-function-reads.Learnt,
-) (analyze-function-at t) analyze-function.Post
-analyze-function-same-length-12 t c = c .before .before .before .before .before .before .before .before .before .before .before .before .before .before .analyze .kept .1 .1 .1 .0 ∙ c .before .before .before .before .before .before .before .before .before .before .before .before .before .before .before .before .before .before .before .before .before .before .before .before .settle-frame .kept .0 ∙ c .before .before .before .before .before .before .before .before .before .before .before .before .before .before .before .before .before .before .before .before .before .before .before .before .before .before .before .before .before .before .before .before .before .before .before .before .before .before .before .before .before .before .walk-params .kept .1 .1 .1 .0 ∙ c .before .before .before .before .before .before .before .before .before .before .before .before .before .before .before .before .before .before .before .before .before .before .before .before .before .before .before .before .before .before .before .before .before .before .before .before .before .before .before .before .before .before .before .before .before .before .before .before .before .before .before .before .before .before .before .before .before .before .begin-function .kept .1 .1 .0
+) (on-function-at t) on-function.Post
+on-function-same-length-12 t c = c .before .before .before .before .before .before .before .before .before .before .before .before .before .before .analyze .kept .1 .1 .1 .0 ∙ c .before .before .before .before .before .before .before .before .before .before .before .before .before .before .before .before .before .before .before .before .before .before .before .before .settle-frame .kept .0 ∙ c .before .before .before .before .before .before .before .before .before .before .before .before .before .before .before .before .before .before .before .before .before .before .before .before .before .before .before .before .before .before .before .before .before .before .before .before .before .before .before .before .before .before .on-params .kept .1 .1 .1 .0 ∙ c .before .before .before .before .before .before .before .before .before .before .before .before .before .before .before .before .before .before .before .before .before .before .before .before .before .before .before .before .before .before .before .before .before .before .before .before .before .before .before .before .before .before .before .before .before .before .before .before .before .before .before .before .before .before .before .before .before .before .begin-function .kept .1 .1 .0
 
-analyze-function-same-length-13 : (t : ℕ) → analyze-function-lts.Need-same-length-13 (
+on-function-same-length-13 : (t : ℕ) → on-function-lts.Need-same-length-13 (
   number-at-reads.Asked,
   number-at-reads.Learnt,
   begin-function-reads.Asked,
   begin-function-reads.Learnt,
-  walk-params-below t,
-  walk-params.Post,
+  on-params-below t,
+  on-params.Post,
   not-kept-reads.Asked,
   not-kept-reads.Learnt,
   settle-frame-reads.Asked,
@@ -793,16 +793,16 @@ analyze-function-same-length-13 : (t : ℕ) → analyze-function-lts.Need-same-l
   first-defaults-reads.Learnt,
   finish-function-reads.Asked,
   finish-function-reads.Learnt,
-) (analyze-function-at t) analyze-function.Post
-analyze-function-same-length-13 t c = c .before .before .before .before .before .before .before .before .before .before .before .before .before .before .analyze .kept .1 .1 .1 .1 .0 ∙ c .before .before .before .before .before .before .before .before .before .before .before .before .before .before .before .before .before .before .before .before .before .before .before .before .before .before .before .before .before .before .before .before .before .before .before .before .before .before .before .before .before .before .walk-params .kept .1 .1 .1 .1 .0 ∙ c .before .before .before .before .before .before .before .before .before .before .before .before .before .before .before .before .before .before .before .before .before .before .before .before .before .before .before .before .before .before .before .before .before .before .before .before .before .before .before .before .before .before .before .before .before .before .before .before .before .before .before .before .before .before .before .before .before .before .begin-function .kept .1 .1 .1 .0
+) (on-function-at t) on-function.Post
+on-function-same-length-13 t c = c .before .before .before .before .before .before .before .before .before .before .before .before .before .before .analyze .kept .1 .1 .1 .1 .0 ∙ c .before .before .before .before .before .before .before .before .before .before .before .before .before .before .before .before .before .before .before .before .before .before .before .before .before .before .before .before .before .before .before .before .before .before .before .before .before .before .before .before .before .before .on-params .kept .1 .1 .1 .1 .0 ∙ c .before .before .before .before .before .before .before .before .before .before .before .before .before .before .before .before .before .before .before .before .before .before .before .before .before .before .before .before .before .before .before .before .before .before .before .before .before .before .before .before .before .before .before .before .before .before .before .before .before .before .before .before .before .before .before .before .before .before .begin-function .kept .1 .1 .1 .0
 
-analyze-function-same-length-14 : (t : ℕ) → analyze-function-lts.Need-same-length-14 (
+on-function-same-length-14 : (t : ℕ) → on-function-lts.Need-same-length-14 (
   number-at-reads.Asked,
   number-at-reads.Learnt,
   begin-function-reads.Asked,
   begin-function-reads.Learnt,
-  walk-params-below t,
-  walk-params.Post,
+  on-params-below t,
+  on-params.Post,
   not-kept-reads.Asked,
   not-kept-reads.Learnt,
   settle-frame-reads.Asked,
@@ -815,16 +815,16 @@ analyze-function-same-length-14 : (t : ℕ) → analyze-function-lts.Need-same-l
   first-defaults-reads.Learnt,
   finish-function-reads.Asked,
   finish-function-reads.Learnt,
-) (analyze-function-at t) analyze-function.Post
-analyze-function-same-length-14 t c = c .before .before .before .before .before .before .before .before .before .before .before .before .before .before .analyze .kept .1 .1 .1 .1 .1 .0 ∙ c .before .before .before .before .before .before .before .before .before .before .before .before .before .before .before .before .before .before .before .before .before .before .before .before .before .before .before .before .before .before .before .before .before .before .before .before .before .before .before .before .before .before .walk-params .kept .1 .1 .1 .1 .1 .0
+) (on-function-at t) on-function.Post
+on-function-same-length-14 t c = c .before .before .before .before .before .before .before .before .before .before .before .before .before .before .analyze .kept .1 .1 .1 .1 .1 .0 ∙ c .before .before .before .before .before .before .before .before .before .before .before .before .before .before .before .before .before .before .before .before .before .before .before .before .before .before .before .before .before .before .before .before .before .before .before .before .before .before .before .before .before .before .on-params .kept .1 .1 .1 .1 .1 .0
 
-analyze-function-same-length-15 : (t : ℕ) → analyze-function-lts.Need-same-length-15 (
+on-function-same-length-15 : (t : ℕ) → on-function-lts.Need-same-length-15 (
   number-at-reads.Asked,
   number-at-reads.Learnt,
   begin-function-reads.Asked,
   begin-function-reads.Learnt,
-  walk-params-below t,
-  walk-params.Post,
+  on-params-below t,
+  on-params.Post,
   not-kept-reads.Asked,
   not-kept-reads.Learnt,
   settle-frame-reads.Asked,
@@ -837,16 +837,16 @@ analyze-function-same-length-15 : (t : ℕ) → analyze-function-lts.Need-same-l
   first-defaults-reads.Learnt,
   finish-function-reads.Asked,
   finish-function-reads.Learnt,
-) (analyze-function-at t) analyze-function.Post
-analyze-function-same-length-15 t c = c .before .before .before .before .before .before .before .before .before .before .before .before .before .before .analyze .kept .1 .1 .1 .1 .1 .1 .0 ∙ c .before .before .before .before .before .before .before .before .before .before .before .before .before .before .before .before .before .before .before .before .before .before .before .before .before .before .before .before .before .before .before .before .before .before .before .before .before .before .before .before .before .before .walk-params .kept .1 .1 .1 .1 .1 .1 .0
+) (on-function-at t) on-function.Post
+on-function-same-length-15 t c = c .before .before .before .before .before .before .before .before .before .before .before .before .before .before .analyze .kept .1 .1 .1 .1 .1 .1 .0 ∙ c .before .before .before .before .before .before .before .before .before .before .before .before .before .before .before .before .before .before .before .before .before .before .before .before .before .before .before .before .before .before .before .before .before .before .before .before .before .before .before .before .before .before .on-params .kept .1 .1 .1 .1 .1 .1 .0
 
-analyze-function-returns-3 : (t : ℕ) → analyze-function-lts.Need-returns-3 (
+on-function-returns-3 : (t : ℕ) → on-function-lts.Need-returns-3 (
   number-at-reads.Asked,
   number-at-reads.Learnt,
   begin-function-reads.Asked,
   begin-function-reads.Learnt,
-  walk-params-below t,
-  walk-params.Post,
+  on-params-below t,
+  on-params.Post,
   not-kept-reads.Asked,
   not-kept-reads.Learnt,
   settle-frame-reads.Asked,
@@ -859,29 +859,29 @@ analyze-function-returns-3 : (t : ℕ) → analyze-function-lts.Need-returns-3 (
   first-defaults-reads.Learnt,
   finish-function-reads.Asked,
   finish-function-reads.Learnt,
-) (analyze-function-at t) analyze-function.Post
+) (on-function-at t) on-function.Post
 unfolding place-of naming-of
-analyze-function-returns-3 t c =
+on-function-returns-3 t c =
     let args· = c .before .before .before .before .before .before .before .before .before .before .before .before .before .before .before .before .before .before .before .before .before .before .before .before .before .before .before .before .before .before .before .before .before .before .before .before .before .before .before .before .before .before .before .before .before .before .before .before .before .before .before .before .before .before .before .before .before .before .before .before .before .before .before .before .before .before .before .before .before .before .args in
     let pre· = c .before .before .before .before .before .before .before .before .before .before .before .before .before .before .before .before .before .before .before .before .before .before .before .before .before .before .before .before .before .before .before .before .before .before .before .before .before .before .before .before .before .before .before .before .before .before .before .before .before .before .before .before .before .before .before .before .before .before .before .before .before .before .before .before .before .before .before .before .before .before .pre in
     let number-at· = c .before .before .before .before .before .before .before .before .before .before .before .before .before .before .before .before .before .before .before .before .before .before .before .before .before .before .before .before .before .before .before .before .before .before .before .before .before .before .before .before .before .before .before .before .before .before .before .before .before .before .before .before .before .before .before .before .before .before .before .before .before .before .number-at in
     let begin-function· = c .before .before .before .before .before .before .before .before .before .before .before .before .before .before .before .before .before .before .before .before .before .before .before .before .before .before .before .before .before .before .before .before .before .before .before .before .before .before .before .before .before .before .before .before .before .before .before .before .before .before .before .before .before .before .before .before .before .before .begin-function in
     let begun· = c .before .before .before .before .before .before .before .before .before .before .before .before .before .before .before .before .before .before .before .before .before .before .before .before .before .before .before .before .before .before .before .before .before .before .before .before .before .before .before .before .before .before .before .before .before .before .before .before .before .before .begun in
-    let walk-params· = c .before .before .before .before .before .before .before .before .before .before .before .before .before .before .before .before .before .before .before .before .before .before .before .before .before .before .before .before .before .before .before .before .before .before .before .before .before .before .before .before .before .before .walk-params in
+    let on-params· = c .before .before .before .before .before .before .before .before .before .before .before .before .before .before .before .before .before .before .before .before .before .before .before .before .before .before .before .before .before .before .before .before .before .before .before .before .before .before .before .before .before .before .on-params in
     let specs· = c .before .before .before .before .before .before .before .before .before .before .before .before .before .before .before .before .before .before .before .before .before .before .before .before .before .before .before .before .specs in
     let settle-frame· = c .before .before .before .before .before .before .before .before .before .before .before .before .before .before .before .before .before .before .before .before .before .before .before .before .settle-frame in
     let deeper· = c .before .before .before .before .before .before .before .before .before .before .before .before .before .before .before .deeper in
     let analyze· = c .before .before .before .before .before .before .before .before .before .before .before .before .before .before .analyze in
     let enum-told3· = c .enum-told3 in
-    function-body-stopped (args· .tree .now) (args· .nest) (args· .at) (pre· .1 .1) (naming-of (args· .naming)) (place-of (args· .here)) (number-at· .ensures) (begin-function· .ensures .begun ((args· .nest) - 1) (function-params-there (pre· .1 .0) (pre· .1 .1) (number-at· .ensures)) _ _ _ ((pre· .1 .0) .fit)) (begun· .given .1) (record { out = refl; diagnostics = begin-function· .kept .1 .0 }) (walk-params· .ensures) (specs· .given .1) (record { out = walk-params· .kept .1 .0; diagnostics = walk-params· .kept .1 .1 .0 }) (sym (references-counted (buffers (args· .out .now) (args· .diagnostics .now) (args· .locals .now) (args· .frames .now) (args· .captures .now) (args· .references .now)) (args· .st))) (settle-frame· .ensures .becomes _ _ _ _ _ (kept-fit (walk-params· .ensures) (specs· .given .1))) (record { out = refl; diagnostics = refl }) (deeper· .ensures .same) (analyze· .ensures) (enum-told3· .given .1)
+    function-body-stopped (args· .tree .now) (args· .nest) (args· .at) (pre· .1 .1) (naming-of (args· .naming)) (place-of (args· .here)) (number-at· .ensures) (begin-function· .ensures .begun ((args· .nest) - 1) (function-params-there (pre· .1 .0) (pre· .1 .1) (number-at· .ensures)) _ _ _ ((pre· .1 .0) .fit)) (begun· .given .1) (record { out = refl; diagnostics = begin-function· .kept .1 .0 }) (on-params· .ensures) (specs· .given .1) (record { out = on-params· .kept .1 .0; diagnostics = on-params· .kept .1 .1 .0 }) (sym (references-counted (buffers (args· .out .now) (args· .diagnostics .now) (args· .locals .now) (args· .frames .now) (args· .captures .now) (args· .references .now)) (args· .st))) (settle-frame· .ensures .becomes _ _ _ _ _ (kept-fit (on-params· .ensures) (specs· .given .1))) (record { out = refl; diagnostics = refl }) (deeper· .ensures .same) (analyze· .ensures) (enum-told3· .given .1)
 
-analyze-function-add-first-defaults : (t : ℕ) → analyze-function-lts.Need-add-first-defaults (
+on-function-add-first-defaults : (t : ℕ) → on-function-lts.Need-add-first-defaults (
   number-at-reads.Asked,
   number-at-reads.Learnt,
   begin-function-reads.Asked,
   begin-function-reads.Learnt,
-  walk-params-below t,
-  walk-params.Post,
+  on-params-below t,
+  on-params.Post,
   not-kept-reads.Asked,
   not-kept-reads.Learnt,
   settle-frame-reads.Asked,
@@ -894,20 +894,20 @@ analyze-function-add-first-defaults : (t : ℕ) → analyze-function-lts.Need-ad
   first-defaults-reads.Learnt,
   finish-function-reads.Asked,
   finish-function-reads.Learnt,
-) (analyze-function-at t) analyze-function.Post
-analyze-function-add-first-defaults t c =
+) (on-function-at t) on-function.Post
+on-function-add-first-defaults t c =
     let args· = c .before .before .before .before .before .before .before .before .before .before .before .before .before .before .before .before .before .before .before .before .before .before .before .before .before .before .before .before .before .before .before .before .before .before .before .before .before .before .before .before .before .before .before .before .before .before .before .before .before .before .before .before .before .before .before .before .before .before .before .before .before .before .before .before .before .before .before .before .before .before .before .args in
     let pre· = c .before .before .before .before .before .before .before .before .before .before .before .before .before .before .before .before .before .before .before .before .before .before .before .before .before .before .before .before .before .before .before .before .before .before .before .before .before .before .before .before .before .before .before .before .before .before .before .before .before .before .before .before .before .before .before .before .before .before .before .before .before .before .before .before .before .before .before .before .before .before .before .pre in
     omega (arith, (function-size (args· .tree .now) (args· .nest) (args· .at) ((pre· .1 .1) .read) ((pre· .1 .1) .marked)), (pre· .1 .0) .short)
 
-analyze-function-first-defaults-requires :
-    (t : ℕ) → analyze-function-lts.Need-first-defaults-requires (
+on-function-first-defaults-requires :
+    (t : ℕ) → on-function-lts.Need-first-defaults-requires (
       number-at-reads.Asked,
       number-at-reads.Learnt,
       begin-function-reads.Asked,
       begin-function-reads.Learnt,
-      walk-params-below t,
-      walk-params.Post,
+      on-params-below t,
+      on-params.Post,
       not-kept-reads.Asked,
       not-kept-reads.Learnt,
       settle-frame-reads.Asked,
@@ -920,20 +920,20 @@ analyze-function-first-defaults-requires :
       first-defaults-reads.Learnt,
       finish-function-reads.Asked,
       finish-function-reads.Learnt,
-    ) (analyze-function-at t) analyze-function.Post
-analyze-function-first-defaults-requires t c κs =
+    ) (on-function-at t) on-function.Post
+on-function-first-defaults-requires t c κs =
     let pre· = c .before .before .before .before .before .before .before .before .before .before .before .before .before .before .before .before .before .before .before .before .before .before .before .before .before .before .before .before .before .before .before .before .before .before .before .before .before .before .before .before .before .before .before .before .before .before .before .before .before .before .before .before .before .before .before .before .before .before .before .before .before .before .before .before .before .before .before .before .before .before .before .pre in
     let args· = c .before .before .before .before .before .before .before .before .before .before .before .before .before .before .before .before .before .before .before .before .before .before .before .before .before .before .before .before .before .before .before .before .before .before .before .before .before .before .before .before .before .before .before .before .before .before .before .before .before .before .before .before .before .before .before .before .before .before .before .before .before .before .before .before .before .before .before .before .before .before .before .args in
     let number-at· = c .before .before .before .before .before .before .before .before .before .before .before .before .before .before .before .before .before .before .before .before .before .before .before .before .before .before .before .before .before .before .before .before .before .before .before .before .before .before .before .before .before .before .before .before .before .before .before .before .before .before .before .before .before .before .before .before .before .before .before .before .before .before .before .number-at in
     ((pre· .1 .0) .short, (λ some. omega (arith, function-first-size (args· .tree .now) (args· .nest) (args· .at) ((pre· .1 .1) .read) ((pre· .1 .1) .marked) (omega (arith, some, (number-at· .ensures))))))
 
-analyze-function-add-number-at-2 : (t : ℕ) → analyze-function-lts.Need-add-number-at-2 (
+on-function-add-number-at-2 : (t : ℕ) → on-function-lts.Need-add-number-at-2 (
   number-at-reads.Asked,
   number-at-reads.Learnt,
   begin-function-reads.Asked,
   begin-function-reads.Learnt,
-  walk-params-below t,
-  walk-params.Post,
+  on-params-below t,
+  on-params.Post,
   not-kept-reads.Asked,
   not-kept-reads.Learnt,
   settle-frame-reads.Asked,
@@ -946,19 +946,19 @@ analyze-function-add-number-at-2 : (t : ℕ) → analyze-function-lts.Need-add-n
   first-defaults-reads.Learnt,
   finish-function-reads.Asked,
   finish-function-reads.Learnt,
-) (analyze-function-at t) analyze-function.Post
-analyze-function-add-number-at-2 t c =
+) (on-function-at t) on-function.Post
+on-function-add-number-at-2 t c =
     let args· = c .before .before .before .before .before .before .before .before .before .before .before .before .before .before .before .before .before .before .before .before .before .before .before .before .before .before .before .before .before .before .before .before .before .before .before .before .before .before .before .before .before .before .before .before .before .before .before .before .before .before .before .before .before .before .before .before .before .before .before .before .before .before .before .before .before .before .before .before .before .before .before .before .args in
     let pre· = c .before .before .before .before .before .before .before .before .before .before .before .before .before .before .before .before .before .before .before .before .before .before .before .before .before .before .before .before .before .before .before .before .before .before .before .before .before .before .before .before .before .before .before .before .before .before .before .before .before .before .before .before .before .before .before .before .before .before .before .before .before .before .before .before .before .before .before .before .before .before .before .before .pre in
     omega (arith, (function-size (args· .tree .now) (args· .nest) (args· .at) ((pre· .1 .1) .read) ((pre· .1 .1) .marked)), (pre· .1 .0) .short)
 
-analyze-function-number-at-requires-2 : (t : ℕ) → analyze-function-lts.Need-number-at-requires-2 (
+on-function-number-at-requires-2 : (t : ℕ) → on-function-lts.Need-number-at-requires-2 (
   number-at-reads.Asked,
   number-at-reads.Learnt,
   begin-function-reads.Asked,
   begin-function-reads.Learnt,
-  walk-params-below t,
-  walk-params.Post,
+  on-params-below t,
+  on-params.Post,
   not-kept-reads.Asked,
   not-kept-reads.Learnt,
   settle-frame-reads.Asked,
@@ -971,17 +971,17 @@ analyze-function-number-at-requires-2 : (t : ℕ) → analyze-function-lts.Need-
   first-defaults-reads.Learnt,
   finish-function-reads.Asked,
   finish-function-reads.Learnt,
-) (analyze-function-at t) analyze-function.Post
-analyze-function-number-at-requires-2 t c κs = search needs
+) (on-function-at t) on-function.Post
+on-function-number-at-requires-2 t c κs = search needs
 
-analyze-function-finish-function-requires :
-    (t : ℕ) → analyze-function-lts.Need-finish-function-requires (
+on-function-finish-function-requires :
+    (t : ℕ) → on-function-lts.Need-finish-function-requires (
       number-at-reads.Asked,
       number-at-reads.Learnt,
       begin-function-reads.Asked,
       begin-function-reads.Learnt,
-      walk-params-below t,
-      walk-params.Post,
+      on-params-below t,
+      on-params.Post,
       not-kept-reads.Asked,
       not-kept-reads.Learnt,
       settle-frame-reads.Asked,
@@ -994,29 +994,29 @@ analyze-function-finish-function-requires :
       first-defaults-reads.Learnt,
       finish-function-reads.Asked,
       finish-function-reads.Learnt,
-    ) (analyze-function-at t) analyze-function.Post
+    ) (on-function-at t) on-function.Post
 unfolding place-of naming-of
-analyze-function-finish-function-requires t c κs =
+on-function-finish-function-requires t c κs =
     let pre· = c .before .before .before .before .before .before .before .before .before .before .before .before .before .before .before .before .before .before .before .before .before .before .before .before .before .before .before .before .before .before .before .before .before .before .before .before .before .before .before .before .before .before .before .before .before .before .before .before .before .before .before .before .before .before .before .before .before .before .before .before .before .before .before .before .before .before .before .before .before .before .before .before .before .before .before .before .before .before .before .pre in
     let number-at· = c .before .before .before .before .before .before .before .before .before .before .before .before .before .before .before .before .before .before .before .before .before .before .before .before .before .before .before .before .before .before .before .before .before .before .before .before .before .before .before .before .before .before .before .before .before .before .before .before .before .before .before .before .before .before .before .before .before .before .before .before .before .before .before .before .before .before .before .before .before .before .before .number-at in
     let begin-function· = c .before .before .before .before .before .before .before .before .before .before .before .before .before .before .before .before .before .before .before .before .before .before .before .before .before .before .before .before .before .before .before .before .before .before .before .before .before .before .before .before .before .before .before .before .before .before .before .before .before .before .before .before .before .before .before .before .before .before .before .before .before .before .before .before .before .before .before .begin-function in
     let args· = c .before .before .before .before .before .before .before .before .before .before .before .before .before .before .before .before .before .before .before .before .before .before .before .before .before .before .before .before .before .before .before .before .before .before .before .before .before .before .before .before .before .before .before .before .before .before .before .before .before .before .before .before .before .before .before .before .before .before .before .before .before .before .before .before .before .before .before .before .before .before .before .before .before .before .before .before .before .before .before .args in
     let begun· = c .before .before .before .before .before .before .before .before .before .before .before .before .before .before .before .before .before .before .before .before .before .before .before .before .before .before .before .before .before .before .before .before .before .before .before .before .before .before .before .before .before .before .before .before .before .before .before .before .before .before .before .before .before .before .before .before .before .before .before .begun in
-    let walk-params· = c .before .before .before .before .before .before .before .before .before .before .before .before .before .before .before .before .before .before .before .before .before .before .before .before .before .before .before .before .before .before .before .before .before .before .before .before .before .before .before .before .before .before .before .before .before .before .before .before .before .before .before .walk-params in
+    let on-params· = c .before .before .before .before .before .before .before .before .before .before .before .before .before .before .before .before .before .before .before .before .before .before .before .before .before .before .before .before .before .before .before .before .before .before .before .before .before .before .before .before .before .before .before .before .before .before .before .before .before .before .before .on-params in
     let specs· = c .before .before .before .before .before .before .before .before .before .before .before .before .before .before .before .before .before .before .before .before .before .before .before .before .before .before .before .before .before .before .before .before .before .before .before .before .before .specs in
     let settle-frame· = c .before .before .before .before .before .before .before .before .before .before .before .before .before .before .before .before .before .before .before .before .before .before .before .before .before .before .before .before .before .before .before .before .before .settle-frame in
     let deeper· = c .before .before .before .before .before .before .before .before .before .before .before .before .before .before .before .before .before .before .before .before .before .before .before .before .deeper in
     let analyze· = c .before .before .before .before .before .before .before .before .before .before .before .before .before .before .before .before .before .before .before .before .before .before .before .analyze in
     let w· = c .before .before .before .before .before .before .before .before .before .w in
-    stage-ends (function-stage (pre· .1 .0) (pre· .1 .1) (number-at· .ensures) (begin-function· .ensures .begun ((args· .nest) - 1) (function-params-there (pre· .1 .0) (pre· .1 .1) (number-at· .ensures)) _ _ _ ((pre· .1 .0) .fit)) (begun· .given .1) (walk-params· .ensures) (specs· .given .1)) (settle-frame· .ensures .becomes _ _ _ _ _ (kept-fit (walk-params· .ensures) (specs· .given .1))) _ (expr-level (args· .tree .now) (args· .nest) any-expression (args· .at) ((pre· .1 .1) .read)) (deeper· .ensures .same) (deeper· .ensures .depth) unnamed (analyze· .ensures) (w· .given .1)
+    stage-ends (function-stage (pre· .1 .0) (pre· .1 .1) (number-at· .ensures) (begin-function· .ensures .begun ((args· .nest) - 1) (function-params-there (pre· .1 .0) (pre· .1 .1) (number-at· .ensures)) _ _ _ ((pre· .1 .0) .fit)) (begun· .given .1) (on-params· .ensures) (specs· .given .1)) (settle-frame· .ensures .becomes _ _ _ _ _ (kept-fit (on-params· .ensures) (specs· .given .1))) _ (expr-level (args· .tree .now) (args· .nest) any-expression (args· .at) ((pre· .1 .1) .read)) (deeper· .ensures .same) (deeper· .ensures .depth) unnamed (analyze· .ensures) (w· .given .1)
 
-analyze-function-same-length-16 : (t : ℕ) → analyze-function-lts.Need-same-length-16 (
+on-function-same-length-16 : (t : ℕ) → on-function-lts.Need-same-length-16 (
   number-at-reads.Asked,
   number-at-reads.Learnt,
   begin-function-reads.Asked,
   begin-function-reads.Learnt,
-  walk-params-below t,
-  walk-params.Post,
+  on-params-below t,
+  on-params.Post,
   not-kept-reads.Asked,
   not-kept-reads.Learnt,
   settle-frame-reads.Asked,
@@ -1029,16 +1029,16 @@ analyze-function-same-length-16 : (t : ℕ) → analyze-function-lts.Need-same-l
   first-defaults-reads.Learnt,
   finish-function-reads.Asked,
   finish-function-reads.Learnt,
-) (analyze-function-at t) analyze-function.Post
-analyze-function-same-length-16 t c = c .before .before .before .before .before .before .before .before .finish-function .kept .0 ∙ c .before .before .before .before .before .before .before .before .before .before .before .before .before .before .before .before .before .before .before .before .before .before .before .before .before .before .before .before .before .before .before .before .analyze .kept .1 .0 ∙ c .before .before .before .before .before .before .before .before .before .before .before .before .before .before .before .before .before .before .before .before .before .before .before .before .before .before .before .before .before .before .before .before .before .before .before .before .before .before .before .before .before .before .before .before .before .before .before .before .before .before .before .before .before .before .before .before .before .before .before .before .walk-params .kept .1 .0
+) (on-function-at t) on-function.Post
+on-function-same-length-16 t c = c .before .before .before .before .before .before .before .before .finish-function .kept .0 ∙ c .before .before .before .before .before .before .before .before .before .before .before .before .before .before .before .before .before .before .before .before .before .before .before .before .before .before .before .before .before .before .before .before .analyze .kept .1 .0 ∙ c .before .before .before .before .before .before .before .before .before .before .before .before .before .before .before .before .before .before .before .before .before .before .before .before .before .before .before .before .before .before .before .before .before .before .before .before .before .before .before .before .before .before .before .before .before .before .before .before .before .before .before .before .before .before .before .before .before .before .before .before .on-params .kept .1 .0
 
-analyze-function-same-length-17 : (t : ℕ) → analyze-function-lts.Need-same-length-17 (
+on-function-same-length-17 : (t : ℕ) → on-function-lts.Need-same-length-17 (
   number-at-reads.Asked,
   number-at-reads.Learnt,
   begin-function-reads.Asked,
   begin-function-reads.Learnt,
-  walk-params-below t,
-  walk-params.Post,
+  on-params-below t,
+  on-params.Post,
   not-kept-reads.Asked,
   not-kept-reads.Learnt,
   settle-frame-reads.Asked,
@@ -1051,16 +1051,16 @@ analyze-function-same-length-17 : (t : ℕ) → analyze-function-lts.Need-same-l
   first-defaults-reads.Learnt,
   finish-function-reads.Asked,
   finish-function-reads.Learnt,
-) (analyze-function-at t) analyze-function.Post
-analyze-function-same-length-17 t c = c .before .before .before .before .before .before .before .before .finish-function .kept .1 .0 ∙ c .before .before .before .before .before .before .before .before .before .before .before .before .before .before .before .before .before .before .before .before .before .before .before .before .before .before .before .before .before .before .before .before .analyze .kept .1 .1 .0 ∙ c .before .before .before .before .before .before .before .before .before .before .before .before .before .before .before .before .before .before .before .before .before .before .before .before .before .before .before .before .before .before .before .before .before .before .before .before .before .before .before .before .before .before .before .before .before .before .before .before .before .before .before .before .before .before .before .before .before .before .before .before .walk-params .kept .1 .1 .0 ∙ c .before .before .before .before .before .before .before .before .before .before .before .before .before .before .before .before .before .before .before .before .before .before .before .before .before .before .before .before .before .before .before .before .before .before .before .before .before .before .before .before .before .before .before .before .before .before .before .before .before .before .before .before .before .before .before .before .before .before .before .before .before .before .before .before .before .before .before .before .before .before .before .before .before .before .before .before .begin-function .kept .1 .0
+) (on-function-at t) on-function.Post
+on-function-same-length-17 t c = c .before .before .before .before .before .before .before .before .finish-function .kept .1 .0 ∙ c .before .before .before .before .before .before .before .before .before .before .before .before .before .before .before .before .before .before .before .before .before .before .before .before .before .before .before .before .before .before .before .before .analyze .kept .1 .1 .0 ∙ c .before .before .before .before .before .before .before .before .before .before .before .before .before .before .before .before .before .before .before .before .before .before .before .before .before .before .before .before .before .before .before .before .before .before .before .before .before .before .before .before .before .before .before .before .before .before .before .before .before .before .before .before .before .before .before .before .before .before .before .before .on-params .kept .1 .1 .0 ∙ c .before .before .before .before .before .before .before .before .before .before .before .before .before .before .before .before .before .before .before .before .before .before .before .before .before .before .before .before .before .before .before .before .before .before .before .before .before .before .before .before .before .before .before .before .before .before .before .before .before .before .before .before .before .before .before .before .before .before .before .before .before .before .before .before .before .before .before .before .before .before .before .before .before .before .before .before .begin-function .kept .1 .0
 
-analyze-function-same-length-18 : (t : ℕ) → analyze-function-lts.Need-same-length-18 (
+on-function-same-length-18 : (t : ℕ) → on-function-lts.Need-same-length-18 (
   number-at-reads.Asked,
   number-at-reads.Learnt,
   begin-function-reads.Asked,
   begin-function-reads.Learnt,
-  walk-params-below t,
-  walk-params.Post,
+  on-params-below t,
+  on-params.Post,
   not-kept-reads.Asked,
   not-kept-reads.Learnt,
   settle-frame-reads.Asked,
@@ -1073,16 +1073,16 @@ analyze-function-same-length-18 : (t : ℕ) → analyze-function-lts.Need-same-l
   first-defaults-reads.Learnt,
   finish-function-reads.Asked,
   finish-function-reads.Learnt,
-) (analyze-function-at t) analyze-function.Post
-analyze-function-same-length-18 t c = c .before .before .before .before .before .before .before .before .finish-function .kept .1 .1 .0 ∙ c .before .before .before .before .before .before .before .before .before .before .before .before .before .before .before .before .before .before .before .before .before .before .before .before .before .before .before .before .before .before .before .before .analyze .kept .1 .1 .1 .0 ∙ c .before .before .before .before .before .before .before .before .before .before .before .before .before .before .before .before .before .before .before .before .before .before .before .before .before .before .before .before .before .before .before .before .before .before .before .before .before .before .before .before .before .before .settle-frame .kept .0 ∙ c .before .before .before .before .before .before .before .before .before .before .before .before .before .before .before .before .before .before .before .before .before .before .before .before .before .before .before .before .before .before .before .before .before .before .before .before .before .before .before .before .before .before .before .before .before .before .before .before .before .before .before .before .before .before .before .before .before .before .before .before .walk-params .kept .1 .1 .1 .0 ∙ c .before .before .before .before .before .before .before .before .before .before .before .before .before .before .before .before .before .before .before .before .before .before .before .before .before .before .before .before .before .before .before .before .before .before .before .before .before .before .before .before .before .before .before .before .before .before .before .before .before .before .before .before .before .before .before .before .before .before .before .before .before .before .before .before .before .before .before .before .before .before .before .before .before .before .before .before .begin-function .kept .1 .1 .0
+) (on-function-at t) on-function.Post
+on-function-same-length-18 t c = c .before .before .before .before .before .before .before .before .finish-function .kept .1 .1 .0 ∙ c .before .before .before .before .before .before .before .before .before .before .before .before .before .before .before .before .before .before .before .before .before .before .before .before .before .before .before .before .before .before .before .before .analyze .kept .1 .1 .1 .0 ∙ c .before .before .before .before .before .before .before .before .before .before .before .before .before .before .before .before .before .before .before .before .before .before .before .before .before .before .before .before .before .before .before .before .before .before .before .before .before .before .before .before .before .before .settle-frame .kept .0 ∙ c .before .before .before .before .before .before .before .before .before .before .before .before .before .before .before .before .before .before .before .before .before .before .before .before .before .before .before .before .before .before .before .before .before .before .before .before .before .before .before .before .before .before .before .before .before .before .before .before .before .before .before .before .before .before .before .before .before .before .before .before .on-params .kept .1 .1 .1 .0 ∙ c .before .before .before .before .before .before .before .before .before .before .before .before .before .before .before .before .before .before .before .before .before .before .before .before .before .before .before .before .before .before .before .before .before .before .before .before .before .before .before .before .before .before .before .before .before .before .before .before .before .before .before .before .before .before .before .before .before .before .before .before .before .before .before .before .before .before .before .before .before .before .before .before .before .before .before .before .begin-function .kept .1 .1 .0
 
-analyze-function-same-length-19 : (t : ℕ) → analyze-function-lts.Need-same-length-19 (
+on-function-same-length-19 : (t : ℕ) → on-function-lts.Need-same-length-19 (
   number-at-reads.Asked,
   number-at-reads.Learnt,
   begin-function-reads.Asked,
   begin-function-reads.Learnt,
-  walk-params-below t,
-  walk-params.Post,
+  on-params-below t,
+  on-params.Post,
   not-kept-reads.Asked,
   not-kept-reads.Learnt,
   settle-frame-reads.Asked,
@@ -1095,16 +1095,16 @@ analyze-function-same-length-19 : (t : ℕ) → analyze-function-lts.Need-same-l
   first-defaults-reads.Learnt,
   finish-function-reads.Asked,
   finish-function-reads.Learnt,
-) (analyze-function-at t) analyze-function.Post
-analyze-function-same-length-19 t c = c .before .before .before .before .before .before .before .before .before .before .before .before .before .before .before .before .before .before .before .before .before .before .before .before .before .before .before .before .before .before .before .before .analyze .kept .1 .1 .1 .1 .0 ∙ c .before .before .before .before .before .before .before .before .before .before .before .before .before .before .before .before .before .before .before .before .before .before .before .before .before .before .before .before .before .before .before .before .before .before .before .before .before .before .before .before .before .before .before .before .before .before .before .before .before .before .before .before .before .before .before .before .before .before .before .before .walk-params .kept .1 .1 .1 .1 .0 ∙ c .before .before .before .before .before .before .before .before .before .before .before .before .before .before .before .before .before .before .before .before .before .before .before .before .before .before .before .before .before .before .before .before .before .before .before .before .before .before .before .before .before .before .before .before .before .before .before .before .before .before .before .before .before .before .before .before .before .before .before .before .before .before .before .before .before .before .before .before .before .before .before .before .before .before .before .before .begin-function .kept .1 .1 .1 .0
+) (on-function-at t) on-function.Post
+on-function-same-length-19 t c = c .before .before .before .before .before .before .before .before .before .before .before .before .before .before .before .before .before .before .before .before .before .before .before .before .before .before .before .before .before .before .before .before .analyze .kept .1 .1 .1 .1 .0 ∙ c .before .before .before .before .before .before .before .before .before .before .before .before .before .before .before .before .before .before .before .before .before .before .before .before .before .before .before .before .before .before .before .before .before .before .before .before .before .before .before .before .before .before .before .before .before .before .before .before .before .before .before .before .before .before .before .before .before .before .before .before .on-params .kept .1 .1 .1 .1 .0 ∙ c .before .before .before .before .before .before .before .before .before .before .before .before .before .before .before .before .before .before .before .before .before .before .before .before .before .before .before .before .before .before .before .before .before .before .before .before .before .before .before .before .before .before .before .before .before .before .before .before .before .before .before .before .before .before .before .before .before .before .before .before .before .before .before .before .before .before .before .before .before .before .before .before .before .before .before .before .begin-function .kept .1 .1 .1 .0
 
-analyze-function-same-length-20 : (t : ℕ) → analyze-function-lts.Need-same-length-20 (
+on-function-same-length-20 : (t : ℕ) → on-function-lts.Need-same-length-20 (
   number-at-reads.Asked,
   number-at-reads.Learnt,
   begin-function-reads.Asked,
   begin-function-reads.Learnt,
-  walk-params-below t,
-  walk-params.Post,
+  on-params-below t,
+  on-params.Post,
   not-kept-reads.Asked,
   not-kept-reads.Learnt,
   settle-frame-reads.Asked,
@@ -1117,16 +1117,16 @@ analyze-function-same-length-20 : (t : ℕ) → analyze-function-lts.Need-same-l
   first-defaults-reads.Learnt,
   finish-function-reads.Asked,
   finish-function-reads.Learnt,
-) (analyze-function-at t) analyze-function.Post
-analyze-function-same-length-20 t c = c .before .before .before .before .before .before .before .before .finish-function .kept .1 .1 .1 .1 .0 ∙ c .before .before .before .before .before .before .before .before .before .before .before .before .before .before .before .before .before .before .before .before .before .before .before .before .before .before .before .before .before .before .before .before .analyze .kept .1 .1 .1 .1 .1 .0 ∙ c .before .before .before .before .before .before .before .before .before .before .before .before .before .before .before .before .before .before .before .before .before .before .before .before .before .before .before .before .before .before .before .before .before .before .before .before .before .before .before .before .before .before .before .before .before .before .before .before .before .before .before .before .before .before .before .before .before .before .before .before .walk-params .kept .1 .1 .1 .1 .1 .0
+) (on-function-at t) on-function.Post
+on-function-same-length-20 t c = c .before .before .before .before .before .before .before .before .finish-function .kept .1 .1 .1 .1 .0 ∙ c .before .before .before .before .before .before .before .before .before .before .before .before .before .before .before .before .before .before .before .before .before .before .before .before .before .before .before .before .before .before .before .before .analyze .kept .1 .1 .1 .1 .1 .0 ∙ c .before .before .before .before .before .before .before .before .before .before .before .before .before .before .before .before .before .before .before .before .before .before .before .before .before .before .before .before .before .before .before .before .before .before .before .before .before .before .before .before .before .before .before .before .before .before .before .before .before .before .before .before .before .before .before .before .before .before .before .before .on-params .kept .1 .1 .1 .1 .1 .0
 
-analyze-function-same-length-21 : (t : ℕ) → analyze-function-lts.Need-same-length-21 (
+on-function-same-length-21 : (t : ℕ) → on-function-lts.Need-same-length-21 (
   number-at-reads.Asked,
   number-at-reads.Learnt,
   begin-function-reads.Asked,
   begin-function-reads.Learnt,
-  walk-params-below t,
-  walk-params.Post,
+  on-params-below t,
+  on-params.Post,
   not-kept-reads.Asked,
   not-kept-reads.Learnt,
   settle-frame-reads.Asked,
@@ -1139,16 +1139,16 @@ analyze-function-same-length-21 : (t : ℕ) → analyze-function-lts.Need-same-l
   first-defaults-reads.Learnt,
   finish-function-reads.Asked,
   finish-function-reads.Learnt,
-) (analyze-function-at t) analyze-function.Post
-analyze-function-same-length-21 t c = c .before .before .before .before .before .before .before .before .before .before .before .before .before .before .before .before .before .before .before .before .before .before .before .before .before .before .before .before .before .before .before .before .analyze .kept .1 .1 .1 .1 .1 .1 .0 ∙ c .before .before .before .before .before .before .before .before .before .before .before .before .before .before .before .before .before .before .before .before .before .before .before .before .before .before .before .before .before .before .before .before .before .before .before .before .before .before .before .before .before .before .before .before .before .before .before .before .before .before .before .before .before .before .before .before .before .before .before .before .walk-params .kept .1 .1 .1 .1 .1 .1 .0
+) (on-function-at t) on-function.Post
+on-function-same-length-21 t c = c .before .before .before .before .before .before .before .before .before .before .before .before .before .before .before .before .before .before .before .before .before .before .before .before .before .before .before .before .before .before .before .before .analyze .kept .1 .1 .1 .1 .1 .1 .0 ∙ c .before .before .before .before .before .before .before .before .before .before .before .before .before .before .before .before .before .before .before .before .before .before .before .before .before .before .before .before .before .before .before .before .before .before .before .before .before .before .before .before .before .before .before .before .before .before .before .before .before .before .before .before .before .before .before .before .before .before .before .before .on-params .kept .1 .1 .1 .1 .1 .1 .0
 
-analyze-function-returns-4 : (t : ℕ) → analyze-function-lts.Need-returns-4 (
+on-function-returns-4 : (t : ℕ) → on-function-lts.Need-returns-4 (
   number-at-reads.Asked,
   number-at-reads.Learnt,
   begin-function-reads.Asked,
   begin-function-reads.Learnt,
-  walk-params-below t,
-  walk-params.Post,
+  on-params-below t,
+  on-params.Post,
   not-kept-reads.Asked,
   not-kept-reads.Learnt,
   settle-frame-reads.Asked,
@@ -1161,15 +1161,15 @@ analyze-function-returns-4 : (t : ℕ) → analyze-function-lts.Need-returns-4 (
   first-defaults-reads.Learnt,
   finish-function-reads.Asked,
   finish-function-reads.Learnt,
-) (analyze-function-at t) analyze-function.Post
+) (on-function-at t) on-function.Post
 unfolding place-of naming-of
-analyze-function-returns-4 t c =
+on-function-returns-4 t c =
     let args· = c .before .before .before .before .before .before .before .before .before .before .before .before .before .before .before .before .before .before .before .before .before .before .before .before .before .before .before .before .before .before .before .before .before .before .before .before .before .before .before .before .before .before .before .before .before .before .before .before .before .before .before .before .before .before .before .before .before .before .before .before .before .before .before .before .before .before .before .before .before .before .before .before .before .before .before .before .before .before .before .before .before .before .before .before .before .before .before .before .args in
     let pre· = c .before .before .before .before .before .before .before .before .before .before .before .before .before .before .before .before .before .before .before .before .before .before .before .before .before .before .before .before .before .before .before .before .before .before .before .before .before .before .before .before .before .before .before .before .before .before .before .before .before .before .before .before .before .before .before .before .before .before .before .before .before .before .before .before .before .before .before .before .before .before .before .before .before .before .before .before .before .before .before .before .before .before .before .before .before .before .before .before .pre in
     let number-at· = c .before .before .before .before .before .before .before .before .before .before .before .before .before .before .before .before .before .before .before .before .before .before .before .before .before .before .before .before .before .before .before .before .before .before .before .before .before .before .before .before .before .before .before .before .before .before .before .before .before .before .before .before .before .before .before .before .before .before .before .before .before .before .before .before .before .before .before .before .before .before .before .before .before .before .before .before .before .before .before .before .number-at in
     let begin-function· = c .before .before .before .before .before .before .before .before .before .before .before .before .before .before .before .before .before .before .before .before .before .before .before .before .before .before .before .before .before .before .before .before .before .before .before .before .before .before .before .before .before .before .before .before .before .before .before .before .before .before .before .before .before .before .before .before .before .before .before .before .before .before .before .before .before .before .before .before .before .before .before .before .before .before .before .before .begin-function in
     let begun· = c .before .before .before .before .before .before .before .before .before .before .before .before .before .before .before .before .before .before .before .before .before .before .before .before .before .before .before .before .before .before .before .before .before .before .before .before .before .before .before .before .before .before .before .before .before .before .before .before .before .before .before .before .before .before .before .before .before .before .before .before .before .before .before .before .before .before .before .before .begun in
-    let walk-params· = c .before .before .before .before .before .before .before .before .before .before .before .before .before .before .before .before .before .before .before .before .before .before .before .before .before .before .before .before .before .before .before .before .before .before .before .before .before .before .before .before .before .before .before .before .before .before .before .before .before .before .before .before .before .before .before .before .before .before .before .before .walk-params in
+    let on-params· = c .before .before .before .before .before .before .before .before .before .before .before .before .before .before .before .before .before .before .before .before .before .before .before .before .before .before .before .before .before .before .before .before .before .before .before .before .before .before .before .before .before .before .before .before .before .before .before .before .before .before .before .before .before .before .before .before .before .before .before .before .on-params in
     let specs· = c .before .before .before .before .before .before .before .before .before .before .before .before .before .before .before .before .before .before .before .before .before .before .before .before .before .before .before .before .before .before .before .before .before .before .before .before .before .before .before .before .before .before .before .before .before .before .specs in
     let settle-frame· = c .before .before .before .before .before .before .before .before .before .before .before .before .before .before .before .before .before .before .before .before .before .before .before .before .before .before .before .before .before .before .before .before .before .before .before .before .before .before .before .before .before .before .settle-frame in
     let deeper· = c .before .before .before .before .before .before .before .before .before .before .before .before .before .before .before .before .before .before .before .before .before .before .before .before .before .before .before .before .before .before .before .before .before .deeper in
@@ -1178,15 +1178,15 @@ analyze-function-returns-4 t c =
     let number-at2· = c .before .before .before .before .before .before .before .before .before .before .before .before .before .before .before .number-at2 in
     let first-defaults· = c .before .before .before .before .before .before .before .before .before .before .before .before .before .before .before .before .first-defaults in
     let finish-function· = c .before .before .before .before .before .before .before .before .finish-function in
-    function-ended (args· .tree .now) (args· .nest) (args· .at) (pre· .1 .1) (naming-of (args· .naming)) (place-of (args· .here)) (number-at· .ensures) (begin-function· .ensures .begun ((args· .nest) - 1) (function-params-there (pre· .1 .0) (pre· .1 .1) (number-at· .ensures)) _ _ _ ((pre· .1 .0) .fit)) (begun· .given .1) (record { out = refl; diagnostics = begin-function· .kept .1 .0 }) (walk-params· .ensures) (specs· .given .1) (record { out = walk-params· .kept .1 .0; diagnostics = walk-params· .kept .1 .1 .0 }) (sym (references-counted (buffers (args· .out .now) (args· .diagnostics .now) (args· .locals .now) (args· .frames .now) (args· .captures .now) (args· .references .now)) (args· .st))) (settle-frame· .ensures .becomes _ _ _ _ _ (kept-fit (walk-params· .ensures) (specs· .given .1))) (record { out = refl; diagnostics = refl }) (deeper· .ensures .same) (analyze· .ensures) (w· .given .1) (record { out = analyze· .kept .1 .0; diagnostics = analyze· .kept .1 .1 .0 }) (number-at2· .ensures) (written-counted _ _ ((pre· .1 .0) .fit)) (written-counted _ _ (kept-fit (walk-params· .ensures) (specs· .given .1))) (first-defaults· .ensures) (finish-function· .ensures)
+    function-ended (args· .tree .now) (args· .nest) (args· .at) (pre· .1 .1) (naming-of (args· .naming)) (place-of (args· .here)) (number-at· .ensures) (begin-function· .ensures .begun ((args· .nest) - 1) (function-params-there (pre· .1 .0) (pre· .1 .1) (number-at· .ensures)) _ _ _ ((pre· .1 .0) .fit)) (begun· .given .1) (record { out = refl; diagnostics = begin-function· .kept .1 .0 }) (on-params· .ensures) (specs· .given .1) (record { out = on-params· .kept .1 .0; diagnostics = on-params· .kept .1 .1 .0 }) (sym (references-counted (buffers (args· .out .now) (args· .diagnostics .now) (args· .locals .now) (args· .frames .now) (args· .captures .now) (args· .references .now)) (args· .st))) (settle-frame· .ensures .becomes _ _ _ _ _ (kept-fit (on-params· .ensures) (specs· .given .1))) (record { out = refl; diagnostics = refl }) (deeper· .ensures .same) (analyze· .ensures) (w· .given .1) (record { out = analyze· .kept .1 .0; diagnostics = analyze· .kept .1 .1 .0 }) (number-at2· .ensures) (written-counted _ _ ((pre· .1 .0) .fit)) (written-counted _ _ (kept-fit (on-params· .ensures) (specs· .given .1))) (first-defaults· .ensures) (finish-function· .ensures)
 
-pub analyze-function-met : {M : Type 1} (t : ℕ) → analyze-function-lts.Closed (
+pub on-function-met : {M : Type 1} (t : ℕ) → on-function-lts.Closed (
   number-at-reads.Asked,
   number-at-reads.Learnt,
   begin-function-reads.Asked,
   begin-function-reads.Learnt,
-  walk-params-below t,
-  walk-params.Post,
+  on-params-below t,
+  on-params.Post,
   not-kept-reads.Asked,
   not-kept-reads.Learnt,
   settle-frame-reads.Asked,
@@ -1199,14 +1199,14 @@ pub analyze-function-met : {M : Type 1} (t : ℕ) → analyze-function-lts.Close
   first-defaults-reads.Learnt,
   finish-function-reads.Asked,
   finish-function-reads.Learnt,
-) (analyze-function-at t) analyze-function.Post M
-analyze-function-met t = analyze-function-lts.spec (
+) (on-function-at t) on-function.Post M
+on-function-met t = on-function-lts.spec (
   number-at-reads.Asked,
   number-at-reads.Learnt,
   begin-function-reads.Asked,
   begin-function-reads.Learnt,
-  walk-params-below t,
-  walk-params.Post,
+  on-params-below t,
+  on-params.Post,
   not-kept-reads.Asked,
   not-kept-reads.Learnt,
   settle-frame-reads.Asked,
@@ -1220,52 +1220,52 @@ analyze-function-met t = analyze-function-lts.spec (
   finish-function-reads.Asked,
   finish-function-reads.Learnt,
 )
-    (analyze-function-at t)
-    analyze-function.Post
-    (analyze-function-add-number-at t)
-    (analyze-function-number-at-requires t)
-    (analyze-function-begin-function-requires t)
-    (analyze-function-enum-known-begun t)
-    (analyze-function-enum-told t)
-    (analyze-function-same-length t)
-    (analyze-function-same-length-2 t)
-    (analyze-function-same-length-3 t)
-    (analyze-function-returns t)
-    (analyze-function-add-walk-params t)
-    (analyze-function-sub-walk-params t)
-    (analyze-function-walk-params-requires t)
-    (analyze-function-enum-known-specs t)
-    (analyze-function-enum-told-2 t)
-    (analyze-function-not-kept-requires t)
-    (analyze-function-same-length-4 t)
-    (analyze-function-same-length-5 t)
-    (analyze-function-same-length-6 t)
-    (analyze-function-same-length-7 t)
-    (analyze-function-same-length-8 t)
-    (analyze-function-same-length-9 t)
-    (analyze-function-returns-2 t)
-    (analyze-function-settle-frame-requires t)
-    (analyze-function-sub-analyze t)
-    (analyze-function-deeper-requires t)
-    (analyze-function-analyze-requires t)
-    (analyze-function-enum-known-w t)
-    (analyze-function-enum-told-3 t)
-    (analyze-function-same-length-10 t)
-    (analyze-function-same-length-11 t)
-    (analyze-function-same-length-12 t)
-    (analyze-function-same-length-13 t)
-    (analyze-function-same-length-14 t)
-    (analyze-function-same-length-15 t)
-    (analyze-function-returns-3 t)
-    (analyze-function-add-first-defaults t)
-    (analyze-function-first-defaults-requires t)
-    (analyze-function-add-number-at-2 t)
-    (analyze-function-number-at-requires-2 t)
-    (analyze-function-finish-function-requires t)
-    (analyze-function-same-length-16 t)
-    (analyze-function-same-length-17 t)
-    (analyze-function-same-length-18 t)
-    (analyze-function-same-length-19 t)
-    (analyze-function-same-length-20 t)
-    (analyze-function-same-length-21 t)
-    (analyze-function-returns-4 t)
+    (on-function-at t)
+    on-function.Post
+    (on-function-add-number-at t)
+    (on-function-number-at-requires t)
+    (on-function-begin-function-requires t)
+    (on-function-enum-known-begun t)
+    (on-function-enum-told t)
+    (on-function-same-length t)
+    (on-function-same-length-2 t)
+    (on-function-same-length-3 t)
+    (on-function-returns t)
+    (on-function-add-on-params t)
+    (on-function-sub-on-params t)
+    (on-function-on-params-requires t)
+    (on-function-enum-known-specs t)
+    (on-function-enum-told-2 t)
+    (on-function-not-kept-requires t)
+    (on-function-same-length-4 t)
+    (on-function-same-length-5 t)
+    (on-function-same-length-6 t)
+    (on-function-same-length-7 t)
+    (on-function-same-length-8 t)
+    (on-function-same-length-9 t)
+    (on-function-returns-2 t)
+    (on-function-settle-frame-requires t)
+    (on-function-sub-analyze t)
+    (on-function-deeper-requires t)
+    (on-function-analyze-requires t)
+    (on-function-enum-known-w t)
+    (on-function-enum-told-3 t)
+    (on-function-same-length-10 t)
+    (on-function-same-length-11 t)
+    (on-function-same-length-12 t)
+    (on-function-same-length-13 t)
+    (on-function-same-length-14 t)
+    (on-function-same-length-15 t)
+    (on-function-returns-3 t)
+    (on-function-add-first-defaults t)
+    (on-function-first-defaults-requires t)
+    (on-function-add-number-at-2 t)
+    (on-function-number-at-requires-2 t)
+    (on-function-finish-function-requires t)
+    (on-function-same-length-16 t)
+    (on-function-same-length-17 t)
+    (on-function-same-length-18 t)
+    (on-function-same-length-19 t)
+    (on-function-same-length-20 t)
+    (on-function-same-length-21 t)
+    (on-function-returns-4 t)

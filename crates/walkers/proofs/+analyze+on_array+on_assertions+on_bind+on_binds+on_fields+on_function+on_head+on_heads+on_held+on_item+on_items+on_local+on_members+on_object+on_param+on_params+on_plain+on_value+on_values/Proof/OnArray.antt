@@ -15,18 +15,18 @@ use Rattle.joins.proofs.Readiness.{ready-on}
 use Rattle.joins.proofs.Onward.{ready-opened}
 use Rattle.joins.proofs.Asking.{opened}
 use Rattle.joins.proofs.Returns.{told, array-constant, array-unopened, array-stopped, array-ended}
-use Rattle.walkers.proofs.walk_array.Reads as walk-array
-use Rattle.walkers.proofs.+analyze+analyze_function+analyze_obj_members+walk_array+walk_assertions+walk_bind+walk_binds+walk_fields+walk_head+walk_heads+walk_held+walk_item+walk_items+walk_local+walk_object+walk_param+walk_params+walk_plain+walk_value+walk_values.Lts-walk_array as walk-array-lts
-use Rattle.walkers.proofs.walk_items.Reads as walk-items
+use Rattle.walkers.proofs.on_array.Reads as on-array
+use Rattle.walkers.proofs.+analyze+on_array+on_assertions+on_bind+on_binds+on_fields+on_function+on_head+on_heads+on_held+on_item+on_items+on_local+on_members+on_object+on_param+on_params+on_plain+on_value+on_values.Lts-on_array as on-array-lts
+use Rattle.walkers.proofs.on_items.Reads as on-items
 use Rattle.atoms.proofs.emit_constants.Reads as emit-constants-reads
 use Rattle.keeping.proofs.close_array.Reads as close-array-reads
 use Rattle.packed.proofs.number_at.Reads as number-at-reads
 use Rattle.tree.proofs.constants.Reads as constants-reads
 use Rattle.walkers.proofs.not_opened.Reads as not-opened-reads
 use Rattle.writing.proofs.open_frame.Reads as open-frame-reads
-use Rattle.walkers.proofs.+analyze+analyze_function+analyze_obj_members+walk_array+walk_assertions+walk_bind+walk_binds+walk_fields+walk_head+walk_heads+walk_held+walk_item+walk_items+walk_local+walk_object+walk_param+walk_params+walk_plain+walk_value+walk_values.Proof.Measures.{walk-array-at, walk-items-below}
+use Rattle.walkers.proofs.+analyze+on_array+on_assertions+on_bind+on_binds+on_fields+on_function+on_head+on_heads+on_held+on_item+on_items+on_local+on_members+on_object+on_param+on_params+on_plain+on_value+on_values.Proof.Measures.{on-array-at, on-items-below}
 
-walk-array-add-number-at : (t : ℕ) → walk-array-lts.Need-add-number-at (
+on-array-add-number-at : (t : ℕ) → on-array-lts.Need-add-number-at (
   number-at-reads.Asked,
   number-at-reads.Learnt,
   constants-reads.Asked,
@@ -37,17 +37,17 @@ walk-array-add-number-at : (t : ℕ) → walk-array-lts.Need-add-number-at (
   open-frame-reads.Learnt,
   not-opened-reads.Asked,
   not-opened-reads.Learnt,
-  walk-items-below t,
-  walk-items.Post,
+  on-items-below t,
+  on-items.Post,
   close-array-reads.Asked,
   close-array-reads.Learnt,
-) (walk-array-at t) walk-array.Post
-walk-array-add-number-at t c =
+) (on-array-at t) on-array.Post
+on-array-add-number-at t c =
     let args· = c .before .before .before .before .before .before .before .args in
     let pre· = c .before .before .before .before .before .before .before .pre in
     omega (arith, (array-size (args· .tree .now) (args· .nest) (args· .at) ((pre· .1 .1) .read) ((pre· .1 .1) .marked)), (pre· .1 .0) .short)
 
-walk-array-number-at-requires : (t : ℕ) → walk-array-lts.Need-number-at-requires (
+on-array-number-at-requires : (t : ℕ) → on-array-lts.Need-number-at-requires (
   number-at-reads.Asked,
   number-at-reads.Learnt,
   constants-reads.Asked,
@@ -58,14 +58,14 @@ walk-array-number-at-requires : (t : ℕ) → walk-array-lts.Need-number-at-requ
   open-frame-reads.Learnt,
   not-opened-reads.Asked,
   not-opened-reads.Learnt,
-  walk-items-below t,
-  walk-items.Post,
+  on-items-below t,
+  on-items.Post,
   close-array-reads.Asked,
   close-array-reads.Learnt,
-) (walk-array-at t) walk-array.Post
-walk-array-number-at-requires t c κs = search needs
+) (on-array-at t) on-array.Post
+on-array-number-at-requires t c κs = search needs
 
-walk-array-add-constants : (t : ℕ) → walk-array-lts.Need-add-constants (
+on-array-add-constants : (t : ℕ) → on-array-lts.Need-add-constants (
   number-at-reads.Asked,
   number-at-reads.Learnt,
   constants-reads.Asked,
@@ -76,17 +76,17 @@ walk-array-add-constants : (t : ℕ) → walk-array-lts.Need-add-constants (
   open-frame-reads.Learnt,
   not-opened-reads.Asked,
   not-opened-reads.Learnt,
-  walk-items-below t,
-  walk-items.Post,
+  on-items-below t,
+  on-items.Post,
   close-array-reads.Asked,
   close-array-reads.Learnt,
-) (walk-array-at t) walk-array.Post
-walk-array-add-constants t c =
+) (on-array-at t) on-array.Post
+on-array-add-constants t c =
     let args· = c .before .before .before .before .before .before .before .before .args in
     let pre· = c .before .before .before .before .before .before .before .before .pre in
     omega (arith, (array-size (args· .tree .now) (args· .nest) (args· .at) ((pre· .1 .1) .read) ((pre· .1 .1) .marked)), (pre· .1 .0) .short)
 
-walk-array-cast-constants : (t : ℕ) → walk-array-lts.Need-cast-constants (
+on-array-cast-constants : (t : ℕ) → on-array-lts.Need-cast-constants (
   number-at-reads.Asked,
   number-at-reads.Learnt,
   constants-reads.Asked,
@@ -97,14 +97,14 @@ walk-array-cast-constants : (t : ℕ) → walk-array-lts.Need-cast-constants (
   open-frame-reads.Learnt,
   not-opened-reads.Asked,
   not-opened-reads.Learnt,
-  walk-items-below t,
-  walk-items.Post,
+  on-items-below t,
+  on-items.Post,
   close-array-reads.Asked,
   close-array-reads.Learnt,
-) (walk-array-at t) walk-array.Post
-walk-array-cast-constants t c = search needs
+) (on-array-at t) on-array.Post
+on-array-cast-constants t c = search needs
 
-walk-array-constants-requires : (t : ℕ) → walk-array-lts.Need-constants-requires (
+on-array-constants-requires : (t : ℕ) → on-array-lts.Need-constants-requires (
   number-at-reads.Asked,
   number-at-reads.Learnt,
   constants-reads.Asked,
@@ -115,14 +115,14 @@ walk-array-constants-requires : (t : ℕ) → walk-array-lts.Need-constants-requ
   open-frame-reads.Learnt,
   not-opened-reads.Asked,
   not-opened-reads.Learnt,
-  walk-items-below t,
-  walk-items.Post,
+  on-items-below t,
+  on-items.Post,
   close-array-reads.Asked,
   close-array-reads.Learnt,
-) (walk-array-at t) walk-array.Post
-walk-array-constants-requires t c κs = search needs
+) (on-array-at t) on-array.Post
+on-array-constants-requires t c κs = search needs
 
-walk-array-cast-emit-constants : (t : ℕ) → walk-array-lts.Need-cast-emit-constants (
+on-array-cast-emit-constants : (t : ℕ) → on-array-lts.Need-cast-emit-constants (
   number-at-reads.Asked,
   number-at-reads.Learnt,
   constants-reads.Asked,
@@ -133,14 +133,14 @@ walk-array-cast-emit-constants : (t : ℕ) → walk-array-lts.Need-cast-emit-con
   open-frame-reads.Learnt,
   not-opened-reads.Asked,
   not-opened-reads.Learnt,
-  walk-items-below t,
-  walk-items.Post,
+  on-items-below t,
+  on-items.Post,
   close-array-reads.Asked,
   close-array-reads.Learnt,
-) (walk-array-at t) walk-array.Post
-walk-array-cast-emit-constants t c = search needs
+) (on-array-at t) on-array.Post
+on-array-cast-emit-constants t c = search needs
 
-walk-array-emit-constants-requires : (t : ℕ) → walk-array-lts.Need-emit-constants-requires (
+on-array-emit-constants-requires : (t : ℕ) → on-array-lts.Need-emit-constants-requires (
   number-at-reads.Asked,
   number-at-reads.Learnt,
   constants-reads.Asked,
@@ -151,12 +151,12 @@ walk-array-emit-constants-requires : (t : ℕ) → walk-array-lts.Need-emit-cons
   open-frame-reads.Learnt,
   not-opened-reads.Asked,
   not-opened-reads.Learnt,
-  walk-items-below t,
-  walk-items.Post,
+  on-items-below t,
+  on-items.Post,
   close-array-reads.Asked,
   close-array-reads.Learnt,
-) (walk-array-at t) walk-array.Post
-walk-array-emit-constants-requires t c κs =
+) (on-array-at t) on-array.Post
+on-array-emit-constants-requires t c κs =
     let args· = c .before .before .before .before .before .before .before .before .before .before .before .args in
     let pre· = c .before .before .before .before .before .before .before .before .before .before .before .pre in
     let number-at· = c .before .before .before .number-at in
@@ -164,7 +164,7 @@ walk-array-emit-constants-requires t c κs =
     let if1· = c .before .if1 in
     (let k = constants-size (args· .tree .now) (args· .nest) (args· .at) ((pre· .1 .1) .read) ((pre· .1 .1) .marked) (told (args· .tree .now) (args· .at) (number-at· .ensures) (constants· .ensures) (if1· .taken)) in (omega (arith, k, (number-at· .ensures)), omega (arith, k, (number-at· .ensures), (pre· .1 .0) .short)))
 
-walk-array-same-length : (t : ℕ) → walk-array-lts.Need-same-length (
+on-array-same-length : (t : ℕ) → on-array-lts.Need-same-length (
   number-at-reads.Asked,
   number-at-reads.Learnt,
   constants-reads.Asked,
@@ -175,14 +175,14 @@ walk-array-same-length : (t : ℕ) → walk-array-lts.Need-same-length (
   open-frame-reads.Learnt,
   not-opened-reads.Asked,
   not-opened-reads.Learnt,
-  walk-items-below t,
-  walk-items.Post,
+  on-items-below t,
+  on-items.Post,
   close-array-reads.Asked,
   close-array-reads.Learnt,
-) (walk-array-at t) walk-array.Post
-walk-array-same-length t c = c .before .before .emit-constants .kept .1 .0
+) (on-array-at t) on-array.Post
+on-array-same-length t c = c .before .before .emit-constants .kept .1 .0
 
-walk-array-returns : (t : ℕ) → walk-array-lts.Need-returns (
+on-array-returns : (t : ℕ) → on-array-lts.Need-returns (
   number-at-reads.Asked,
   number-at-reads.Learnt,
   constants-reads.Asked,
@@ -193,12 +193,12 @@ walk-array-returns : (t : ℕ) → walk-array-lts.Need-returns (
   open-frame-reads.Learnt,
   not-opened-reads.Asked,
   not-opened-reads.Learnt,
-  walk-items-below t,
-  walk-items.Post,
+  on-items-below t,
+  on-items.Post,
   close-array-reads.Asked,
   close-array-reads.Learnt,
-) (walk-array-at t) walk-array.Post
-walk-array-returns t c =
+) (on-array-at t) on-array.Post
+on-array-returns t c =
     let args· = c .before .before .before .before .before .before .before .before .before .before .before .before .before .before .args in
     let pre· = c .before .before .before .before .before .before .before .before .before .before .before .before .before .before .pre in
     let number-at· = c .before .before .before .before .before .before .number-at in
@@ -207,7 +207,7 @@ walk-array-returns t c =
     let emit-constants· = c .before .before .emit-constants in
     λ ν. array-constant (args· .tree .now) (args· .nest) (args· .at) (pre· .1 .1) ν (place-of (args· .here)) (number-at· .ensures) (constants· .ensures) (if1· .taken) (emit-constants· .ensures .walks (args· .limits) _ _ _ _ _ ((pre· .1 .0) .fit))
 
-walk-array-open-frame-requires : (t : ℕ) → walk-array-lts.Need-open-frame-requires (
+on-array-open-frame-requires : (t : ℕ) → on-array-lts.Need-open-frame-requires (
   number-at-reads.Asked,
   number-at-reads.Learnt,
   constants-reads.Asked,
@@ -218,16 +218,16 @@ walk-array-open-frame-requires : (t : ℕ) → walk-array-lts.Need-open-frame-re
   open-frame-reads.Learnt,
   not-opened-reads.Asked,
   not-opened-reads.Learnt,
-  walk-items-below t,
-  walk-items.Post,
+  on-items-below t,
+  on-items.Post,
   close-array-reads.Asked,
   close-array-reads.Learnt,
-) (walk-array-at t) walk-array.Post
-walk-array-open-frame-requires t c κs =
+) (on-array-at t) on-array.Post
+on-array-open-frame-requires t c κs =
     let pre· = c .before .before .before .before .before .before .before .before .before .before .before .pre in
     (pre· .1 .0) .fit .frames-long
 
-walk-array-enum-known-opened : (t : ℕ) → walk-array-lts.Need-enum-known-opened (
+on-array-enum-known-opened : (t : ℕ) → on-array-lts.Need-enum-known-opened (
   number-at-reads.Asked,
   number-at-reads.Learnt,
   constants-reads.Asked,
@@ -238,14 +238,14 @@ walk-array-enum-known-opened : (t : ℕ) → walk-array-lts.Need-enum-known-open
   open-frame-reads.Learnt,
   not-opened-reads.Asked,
   not-opened-reads.Learnt,
-  walk-items-below t,
-  walk-items.Post,
+  on-items-below t,
+  on-items.Post,
   close-array-reads.Asked,
   close-array-reads.Learnt,
-) (walk-array-at t) walk-array.Post
-walk-array-enum-known-opened t c = search needs
+) (on-array-at t) on-array.Post
+on-array-enum-known-opened t c = search needs
 
-walk-array-enum-told : (t : ℕ) → walk-array-lts.Need-enum-told (
+on-array-enum-told : (t : ℕ) → on-array-lts.Need-enum-told (
   number-at-reads.Asked,
   number-at-reads.Learnt,
   constants-reads.Asked,
@@ -256,14 +256,14 @@ walk-array-enum-told : (t : ℕ) → walk-array-lts.Need-enum-told (
   open-frame-reads.Learnt,
   not-opened-reads.Asked,
   not-opened-reads.Learnt,
-  walk-items-below t,
-  walk-items.Post,
+  on-items-below t,
+  on-items.Post,
   close-array-reads.Asked,
   close-array-reads.Learnt,
-) (walk-array-at t) walk-array.Post
-walk-array-enum-told t c = search needs
+) (on-array-at t) on-array.Post
+on-array-enum-told t c = search needs
 
-walk-array-not-opened-requires : (t : ℕ) → walk-array-lts.Need-not-opened-requires (
+on-array-not-opened-requires : (t : ℕ) → on-array-lts.Need-not-opened-requires (
   number-at-reads.Asked,
   number-at-reads.Learnt,
   constants-reads.Asked,
@@ -274,14 +274,14 @@ walk-array-not-opened-requires : (t : ℕ) → walk-array-lts.Need-not-opened-re
   open-frame-reads.Learnt,
   not-opened-reads.Asked,
   not-opened-reads.Learnt,
-  walk-items-below t,
-  walk-items.Post,
+  on-items-below t,
+  on-items.Post,
   close-array-reads.Asked,
   close-array-reads.Learnt,
-) (walk-array-at t) walk-array.Post
-walk-array-not-opened-requires t c κs = search needs
+) (on-array-at t) on-array.Post
+on-array-not-opened-requires t c κs = search needs
 
-walk-array-same-length-2 : (t : ℕ) → walk-array-lts.Need-same-length-2 (
+on-array-same-length-2 : (t : ℕ) → on-array-lts.Need-same-length-2 (
   number-at-reads.Asked,
   number-at-reads.Learnt,
   constants-reads.Asked,
@@ -292,14 +292,14 @@ walk-array-same-length-2 : (t : ℕ) → walk-array-lts.Need-same-length-2 (
   open-frame-reads.Learnt,
   not-opened-reads.Asked,
   not-opened-reads.Learnt,
-  walk-items-below t,
-  walk-items.Post,
+  on-items-below t,
+  on-items.Post,
   close-array-reads.Asked,
   close-array-reads.Learnt,
-) (walk-array-at t) walk-array.Post
-walk-array-same-length-2 t c = c .before .before .before .before .before .open-frame .kept .0
+) (on-array-at t) on-array.Post
+on-array-same-length-2 t c = c .before .before .before .before .before .open-frame .kept .0
 
-walk-array-returns-2 : (t : ℕ) → walk-array-lts.Need-returns-2 (
+on-array-returns-2 : (t : ℕ) → on-array-lts.Need-returns-2 (
   number-at-reads.Asked,
   number-at-reads.Learnt,
   constants-reads.Asked,
@@ -310,12 +310,12 @@ walk-array-returns-2 : (t : ℕ) → walk-array-lts.Need-returns-2 (
   open-frame-reads.Learnt,
   not-opened-reads.Asked,
   not-opened-reads.Learnt,
-  walk-items-below t,
-  walk-items.Post,
+  on-items-below t,
+  on-items.Post,
   close-array-reads.Asked,
   close-array-reads.Learnt,
-) (walk-array-at t) walk-array.Post
-walk-array-returns-2 t c =
+) (on-array-at t) on-array.Post
+on-array-returns-2 t c =
     let args· = c .before .before .before .before .before .before .before .before .before .before .before .before .before .before .before .before .before .args in
     let pre· = c .before .before .before .before .before .before .before .before .before .before .before .before .before .before .before .before .before .pre in
     let number-at· = c .before .before .before .before .before .before .before .before .before .number-at in
@@ -326,7 +326,7 @@ walk-array-returns-2 t c =
     let not-opened· = c .not-opened in
     λ ν. array-unopened (args· .tree .now) (args· .nest) (args· .at) (pre· .1 .1) ν (place-of (args· .here)) (number-at· .ensures) (constants· .ensures) (if1· .left) (opened (open-frame· .ensures) ((pre· .1 .0) .fit)) (enum-told· .given .1) (unopened (not-opened· .ensures) (enum-told· .given .1))
 
-walk-array-add-walk-items : (t : ℕ) → walk-array-lts.Need-add-walk-items (
+on-array-add-on-items : (t : ℕ) → on-array-lts.Need-add-on-items (
   number-at-reads.Asked,
   number-at-reads.Learnt,
   constants-reads.Asked,
@@ -337,17 +337,17 @@ walk-array-add-walk-items : (t : ℕ) → walk-array-lts.Need-add-walk-items (
   open-frame-reads.Learnt,
   not-opened-reads.Asked,
   not-opened-reads.Learnt,
-  walk-items-below t,
-  walk-items.Post,
+  on-items-below t,
+  on-items.Post,
   close-array-reads.Asked,
   close-array-reads.Learnt,
-) (walk-array-at t) walk-array.Post
-walk-array-add-walk-items t c =
+) (on-array-at t) on-array.Post
+on-array-add-on-items t c =
     let args· = c .before .before .before .before .before .before .before .before .before .before .before .before .before .before .before .before .before .before .before .before .before .before .before .args in
     let pre· = c .before .before .before .before .before .before .before .before .before .before .before .before .before .before .before .before .before .before .before .before .before .before .before .pre in
     omega (arith, (array-size (args· .tree .now) (args· .nest) (args· .at) ((pre· .1 .1) .read) ((pre· .1 .1) .marked)), (pre· .1 .0) .short)
 
-walk-array-sub-walk-items : (t : ℕ) → walk-array-lts.Need-sub-walk-items (
+on-array-sub-on-items : (t : ℕ) → on-array-lts.Need-sub-on-items (
   number-at-reads.Asked,
   number-at-reads.Learnt,
   constants-reads.Asked,
@@ -358,17 +358,17 @@ walk-array-sub-walk-items : (t : ℕ) → walk-array-lts.Need-sub-walk-items (
   open-frame-reads.Learnt,
   not-opened-reads.Asked,
   not-opened-reads.Learnt,
-  walk-items-below t,
-  walk-items.Post,
+  on-items-below t,
+  on-items.Post,
   close-array-reads.Asked,
   close-array-reads.Learnt,
-) (walk-array-at t) walk-array.Post
-walk-array-sub-walk-items t c =
+) (on-array-at t) on-array.Post
+on-array-sub-on-items t c =
     let args· = c .before .before .before .before .before .before .before .before .before .before .before .before .before .before .before .before .before .before .before .before .before .before .before .args in
     let pre· = c .before .before .before .before .before .before .before .before .before .before .before .before .before .before .before .before .before .before .before .before .before .before .before .pre in
     omega (arith, (expr-level (args· .tree .now) (args· .nest) any-expression (args· .at) ((pre· .1 .1) .read)))
 
-walk-array-cast-walk-items : (t : ℕ) → walk-array-lts.Need-cast-walk-items (
+on-array-cast-on-items : (t : ℕ) → on-array-lts.Need-cast-on-items (
   number-at-reads.Asked,
   number-at-reads.Learnt,
   constants-reads.Asked,
@@ -379,14 +379,14 @@ walk-array-cast-walk-items : (t : ℕ) → walk-array-lts.Need-cast-walk-items (
   open-frame-reads.Learnt,
   not-opened-reads.Asked,
   not-opened-reads.Learnt,
-  walk-items-below t,
-  walk-items.Post,
+  on-items-below t,
+  on-items.Post,
   close-array-reads.Asked,
   close-array-reads.Learnt,
-) (walk-array-at t) walk-array.Post
-walk-array-cast-walk-items t c = search needs
+) (on-array-at t) on-array.Post
+on-array-cast-on-items t c = search needs
 
-walk-array-walk-items-requires : (t : ℕ) → walk-array-lts.Need-walk-items-requires (
+on-array-on-items-requires : (t : ℕ) → on-array-lts.Need-on-items-requires (
   number-at-reads.Asked,
   number-at-reads.Learnt,
   constants-reads.Asked,
@@ -397,12 +397,12 @@ walk-array-walk-items-requires : (t : ℕ) → walk-array-lts.Need-walk-items-re
   open-frame-reads.Learnt,
   not-opened-reads.Asked,
   not-opened-reads.Learnt,
-  walk-items-below t,
-  walk-items.Post,
+  on-items-below t,
+  on-items.Post,
   close-array-reads.Asked,
   close-array-reads.Learnt,
-) (walk-array-at t) walk-array.Post
-walk-array-walk-items-requires t c κs =
+) (on-array-at t) on-array.Post
+on-array-on-items-requires t c κs =
     let pre· = c .before .before .before .before .before .before .before .before .before .before .before .before .before .before .before .before .before .before .before .before .before .before .before .pre in
     let args· = c .before .before .before .before .before .before .before .before .before .before .before .before .before .before .before .before .before .before .before .before .before .before .before .args in
     let open-frame· = c .before .before .before .before .before .before .before .before .before .before .before .open-frame in
@@ -412,7 +412,7 @@ walk-array-walk-items-requires t c κs =
     let if1· = c .before .before .before .before .before .before .before .before .before .before .before .before .before .if1 in
     (omega (arith, pre· .0, (expr-level (args· .tree .now) (args· .nest) any-expression (args· .at) ((pre· .1 .1) .read))), ((ready-on (omega arith) (omega arith) (ready-opened (args· .at) false (pre· .1 .0) (opened (open-frame· .ensures) ((pre· .1 .0) .fit)) (opened· .given .1))), (subst (λ (k : ℕ). Accepted (items-at (args· .tree .now) ((args· .nest) - 1) k ((args· .at) + 6))) (sym (number-at· .ensures)) (array-items (args· .tree .now) (args· .nest) (args· .at) ((pre· .1 .1) .read) ((pre· .1 .1) .marked) (told (args· .tree .now) (args· .at) (number-at· .ensures) (constants· .ensures) (if1· .left))))))
 
-walk-array-enum-known-w : (t : ℕ) → walk-array-lts.Need-enum-known-w (
+on-array-enum-known-w : (t : ℕ) → on-array-lts.Need-enum-known-w (
   number-at-reads.Asked,
   number-at-reads.Learnt,
   constants-reads.Asked,
@@ -423,14 +423,14 @@ walk-array-enum-known-w : (t : ℕ) → walk-array-lts.Need-enum-known-w (
   open-frame-reads.Learnt,
   not-opened-reads.Asked,
   not-opened-reads.Learnt,
-  walk-items-below t,
-  walk-items.Post,
+  on-items-below t,
+  on-items.Post,
   close-array-reads.Asked,
   close-array-reads.Learnt,
-) (walk-array-at t) walk-array.Post
-walk-array-enum-known-w t c = search needs
+) (on-array-at t) on-array.Post
+on-array-enum-known-w t c = search needs
 
-walk-array-enum-told-2 : (t : ℕ) → walk-array-lts.Need-enum-told-2 (
+on-array-enum-told-2 : (t : ℕ) → on-array-lts.Need-enum-told-2 (
   number-at-reads.Asked,
   number-at-reads.Learnt,
   constants-reads.Asked,
@@ -441,14 +441,14 @@ walk-array-enum-told-2 : (t : ℕ) → walk-array-lts.Need-enum-told-2 (
   open-frame-reads.Learnt,
   not-opened-reads.Asked,
   not-opened-reads.Learnt,
-  walk-items-below t,
-  walk-items.Post,
+  on-items-below t,
+  on-items.Post,
   close-array-reads.Asked,
   close-array-reads.Learnt,
-) (walk-array-at t) walk-array.Post
-walk-array-enum-told-2 t c = search needs
+) (on-array-at t) on-array.Post
+on-array-enum-told-2 t c = search needs
 
-walk-array-same-length-3 : (t : ℕ) → walk-array-lts.Need-same-length-3 (
+on-array-same-length-3 : (t : ℕ) → on-array-lts.Need-same-length-3 (
   number-at-reads.Asked,
   number-at-reads.Learnt,
   constants-reads.Asked,
@@ -459,14 +459,14 @@ walk-array-same-length-3 : (t : ℕ) → walk-array-lts.Need-same-length-3 (
   open-frame-reads.Learnt,
   not-opened-reads.Asked,
   not-opened-reads.Learnt,
-  walk-items-below t,
-  walk-items.Post,
+  on-items-below t,
+  on-items.Post,
   close-array-reads.Asked,
   close-array-reads.Learnt,
-) (walk-array-at t) walk-array.Post
-walk-array-same-length-3 t c = c .before .before .before .before .before .before .before .before .before .before .before .before .before .before .walk-items .kept .1 .0
+) (on-array-at t) on-array.Post
+on-array-same-length-3 t c = c .before .before .before .before .before .before .before .before .before .before .before .before .before .before .on-items .kept .1 .0
 
-walk-array-same-length-4 : (t : ℕ) → walk-array-lts.Need-same-length-4 (
+on-array-same-length-4 : (t : ℕ) → on-array-lts.Need-same-length-4 (
   number-at-reads.Asked,
   number-at-reads.Learnt,
   constants-reads.Asked,
@@ -477,14 +477,14 @@ walk-array-same-length-4 : (t : ℕ) → walk-array-lts.Need-same-length-4 (
   open-frame-reads.Learnt,
   not-opened-reads.Asked,
   not-opened-reads.Learnt,
-  walk-items-below t,
-  walk-items.Post,
+  on-items-below t,
+  on-items.Post,
   close-array-reads.Asked,
   close-array-reads.Learnt,
-) (walk-array-at t) walk-array.Post
-walk-array-same-length-4 t c = c .before .before .before .before .before .before .before .before .before .before .before .before .before .before .walk-items .kept .1 .1 .0
+) (on-array-at t) on-array.Post
+on-array-same-length-4 t c = c .before .before .before .before .before .before .before .before .before .before .before .before .before .before .on-items .kept .1 .1 .0
 
-walk-array-same-length-5 : (t : ℕ) → walk-array-lts.Need-same-length-5 (
+on-array-same-length-5 : (t : ℕ) → on-array-lts.Need-same-length-5 (
   number-at-reads.Asked,
   number-at-reads.Learnt,
   constants-reads.Asked,
@@ -495,14 +495,14 @@ walk-array-same-length-5 : (t : ℕ) → walk-array-lts.Need-same-length-5 (
   open-frame-reads.Learnt,
   not-opened-reads.Asked,
   not-opened-reads.Learnt,
-  walk-items-below t,
-  walk-items.Post,
+  on-items-below t,
+  on-items.Post,
   close-array-reads.Asked,
   close-array-reads.Learnt,
-) (walk-array-at t) walk-array.Post
-walk-array-same-length-5 t c = c .before .before .before .before .before .before .before .before .before .before .before .before .before .before .walk-items .kept .1 .1 .1 .0
+) (on-array-at t) on-array.Post
+on-array-same-length-5 t c = c .before .before .before .before .before .before .before .before .before .before .before .before .before .before .on-items .kept .1 .1 .1 .0
 
-walk-array-same-length-6 : (t : ℕ) → walk-array-lts.Need-same-length-6 (
+on-array-same-length-6 : (t : ℕ) → on-array-lts.Need-same-length-6 (
   number-at-reads.Asked,
   number-at-reads.Learnt,
   constants-reads.Asked,
@@ -513,14 +513,14 @@ walk-array-same-length-6 : (t : ℕ) → walk-array-lts.Need-same-length-6 (
   open-frame-reads.Learnt,
   not-opened-reads.Asked,
   not-opened-reads.Learnt,
-  walk-items-below t,
-  walk-items.Post,
+  on-items-below t,
+  on-items.Post,
   close-array-reads.Asked,
   close-array-reads.Learnt,
-) (walk-array-at t) walk-array.Post
-walk-array-same-length-6 t c = c .before .before .before .before .before .before .before .before .before .before .before .before .before .before .walk-items .kept .1 .1 .1 .1 .0 ∙ c .before .before .before .before .before .before .before .before .before .before .before .before .before .before .before .before .before .before .before .before .before .before .before .before .before .before .open-frame .kept .0
+) (on-array-at t) on-array.Post
+on-array-same-length-6 t c = c .before .before .before .before .before .before .before .before .before .before .before .before .before .before .on-items .kept .1 .1 .1 .1 .0 ∙ c .before .before .before .before .before .before .before .before .before .before .before .before .before .before .before .before .before .before .before .before .before .before .before .before .before .before .open-frame .kept .0
 
-walk-array-same-length-7 : (t : ℕ) → walk-array-lts.Need-same-length-7 (
+on-array-same-length-7 : (t : ℕ) → on-array-lts.Need-same-length-7 (
   number-at-reads.Asked,
   number-at-reads.Learnt,
   constants-reads.Asked,
@@ -531,14 +531,14 @@ walk-array-same-length-7 : (t : ℕ) → walk-array-lts.Need-same-length-7 (
   open-frame-reads.Learnt,
   not-opened-reads.Asked,
   not-opened-reads.Learnt,
-  walk-items-below t,
-  walk-items.Post,
+  on-items-below t,
+  on-items.Post,
   close-array-reads.Asked,
   close-array-reads.Learnt,
-) (walk-array-at t) walk-array.Post
-walk-array-same-length-7 t c = c .before .before .before .before .before .before .before .before .before .before .before .before .before .before .walk-items .kept .1 .1 .1 .1 .1 .0
+) (on-array-at t) on-array.Post
+on-array-same-length-7 t c = c .before .before .before .before .before .before .before .before .before .before .before .before .before .before .on-items .kept .1 .1 .1 .1 .1 .0
 
-walk-array-same-length-8 : (t : ℕ) → walk-array-lts.Need-same-length-8 (
+on-array-same-length-8 : (t : ℕ) → on-array-lts.Need-same-length-8 (
   number-at-reads.Asked,
   number-at-reads.Learnt,
   constants-reads.Asked,
@@ -549,14 +549,14 @@ walk-array-same-length-8 : (t : ℕ) → walk-array-lts.Need-same-length-8 (
   open-frame-reads.Learnt,
   not-opened-reads.Asked,
   not-opened-reads.Learnt,
-  walk-items-below t,
-  walk-items.Post,
+  on-items-below t,
+  on-items.Post,
   close-array-reads.Asked,
   close-array-reads.Learnt,
-) (walk-array-at t) walk-array.Post
-walk-array-same-length-8 t c = c .before .before .before .before .before .before .before .before .before .before .before .before .before .before .walk-items .kept .1 .1 .1 .1 .1 .1 .0
+) (on-array-at t) on-array.Post
+on-array-same-length-8 t c = c .before .before .before .before .before .before .before .before .before .before .before .before .before .before .on-items .kept .1 .1 .1 .1 .1 .1 .0
 
-walk-array-returns-3 : (t : ℕ) → walk-array-lts.Need-returns-3 (
+on-array-returns-3 : (t : ℕ) → on-array-lts.Need-returns-3 (
   number-at-reads.Asked,
   number-at-reads.Learnt,
   constants-reads.Asked,
@@ -567,12 +567,12 @@ walk-array-returns-3 : (t : ℕ) → walk-array-lts.Need-returns-3 (
   open-frame-reads.Learnt,
   not-opened-reads.Asked,
   not-opened-reads.Learnt,
-  walk-items-below t,
-  walk-items.Post,
+  on-items-below t,
+  on-items.Post,
   close-array-reads.Asked,
   close-array-reads.Learnt,
-) (walk-array-at t) walk-array.Post
-walk-array-returns-3 t c =
+) (on-array-at t) on-array.Post
+on-array-returns-3 t c =
     let args· = c .before .before .before .before .before .before .before .before .before .before .before .before .before .before .before .before .before .before .before .before .before .before .before .before .before .before .before .before .before .before .before .before .before .before .before .before .before .before .args in
     let pre· = c .before .before .before .before .before .before .before .before .before .before .before .before .before .before .before .before .before .before .before .before .before .before .before .before .before .before .before .before .before .before .before .before .before .before .before .before .before .before .pre in
     let number-at· = c .before .before .before .before .before .before .before .before .before .before .before .before .before .before .before .before .before .before .before .before .before .before .before .before .before .before .before .before .before .before .number-at in
@@ -580,11 +580,11 @@ walk-array-returns-3 t c =
     let if1· = c .before .before .before .before .before .before .before .before .before .before .before .before .before .before .before .before .before .before .before .before .before .before .before .before .before .before .before .before .if1 in
     let open-frame· = c .before .before .before .before .before .before .before .before .before .before .before .before .before .before .before .before .before .before .before .before .before .before .before .before .before .before .open-frame in
     let opened· = c .before .before .before .before .before .before .before .before .before .before .before .before .before .before .before .before .before .before .before .before .before .before .opened in
-    let walk-items· = c .before .before .before .before .before .before .before .before .before .before .before .before .before .before .walk-items in
+    let on-items· = c .before .before .before .before .before .before .before .before .before .before .before .before .before .before .on-items in
     let enum-told2· = c .enum-told2 in
-    λ ν. array-stopped (args· .tree .now) (args· .nest) (args· .at) (pre· .1 .1) ν (place-of (args· .here)) (number-at· .ensures) (constants· .ensures) (if1· .left) (opened (open-frame· .ensures) ((pre· .1 .0) .fit)) (opened· .given .1) (record { out = refl; diagnostics = refl }) (walk-items· .ensures) (enum-told2· .given .1)
+    λ ν. array-stopped (args· .tree .now) (args· .nest) (args· .at) (pre· .1 .1) ν (place-of (args· .here)) (number-at· .ensures) (constants· .ensures) (if1· .left) (opened (open-frame· .ensures) ((pre· .1 .0) .fit)) (opened· .given .1) (record { out = refl; diagnostics = refl }) (on-items· .ensures) (enum-told2· .given .1)
 
-walk-array-close-array-requires : (t : ℕ) → walk-array-lts.Need-close-array-requires (
+on-array-close-array-requires : (t : ℕ) → on-array-lts.Need-close-array-requires (
   number-at-reads.Asked,
   number-at-reads.Learnt,
   constants-reads.Asked,
@@ -595,17 +595,17 @@ walk-array-close-array-requires : (t : ℕ) → walk-array-lts.Need-close-array-
   open-frame-reads.Learnt,
   not-opened-reads.Asked,
   not-opened-reads.Learnt,
-  walk-items-below t,
-  walk-items.Post,
+  on-items-below t,
+  on-items.Post,
   close-array-reads.Asked,
   close-array-reads.Learnt,
-) (walk-array-at t) walk-array.Post
-walk-array-close-array-requires t c κs =
-    let walk-items· = c .before .before .before .before .before .before .before .before .before .before .before .before .before .before .before .before .before .before .walk-items in
+) (on-array-at t) on-array.Post
+on-array-close-array-requires t c κs =
+    let on-items· = c .before .before .before .before .before .before .before .before .before .before .before .before .before .before .before .before .before .before .on-items in
     let w· = c .before .before .before .before .w in
-    (went-fit (walk-items· .ensures) (w· .given .1)) .frames-kept
+    (went-fit (on-items· .ensures) (w· .given .1)) .frames-kept
 
-walk-array-same-length-9 : (t : ℕ) → walk-array-lts.Need-same-length-9 (
+on-array-same-length-9 : (t : ℕ) → on-array-lts.Need-same-length-9 (
   number-at-reads.Asked,
   number-at-reads.Learnt,
   constants-reads.Asked,
@@ -616,14 +616,14 @@ walk-array-same-length-9 : (t : ℕ) → walk-array-lts.Need-same-length-9 (
   open-frame-reads.Learnt,
   not-opened-reads.Asked,
   not-opened-reads.Learnt,
-  walk-items-below t,
-  walk-items.Post,
+  on-items-below t,
+  on-items.Post,
   close-array-reads.Asked,
   close-array-reads.Learnt,
-) (walk-array-at t) walk-array.Post
-walk-array-same-length-9 t c = c .before .before .before .before .close-array .kept .0 ∙ c .before .before .before .before .before .before .before .before .before .before .before .before .before .before .before .before .before .before .before .before .before .before .before .walk-items .kept .1 .0
+) (on-array-at t) on-array.Post
+on-array-same-length-9 t c = c .before .before .before .before .close-array .kept .0 ∙ c .before .before .before .before .before .before .before .before .before .before .before .before .before .before .before .before .before .before .before .before .before .before .before .on-items .kept .1 .0
 
-walk-array-same-length-10 : (t : ℕ) → walk-array-lts.Need-same-length-10 (
+on-array-same-length-10 : (t : ℕ) → on-array-lts.Need-same-length-10 (
   number-at-reads.Asked,
   number-at-reads.Learnt,
   constants-reads.Asked,
@@ -634,14 +634,14 @@ walk-array-same-length-10 : (t : ℕ) → walk-array-lts.Need-same-length-10 (
   open-frame-reads.Learnt,
   not-opened-reads.Asked,
   not-opened-reads.Learnt,
-  walk-items-below t,
-  walk-items.Post,
+  on-items-below t,
+  on-items.Post,
   close-array-reads.Asked,
   close-array-reads.Learnt,
-) (walk-array-at t) walk-array.Post
-walk-array-same-length-10 t c = c .before .before .before .before .before .before .before .before .before .before .before .before .before .before .before .before .before .before .before .before .before .before .before .walk-items .kept .1 .1 .0
+) (on-array-at t) on-array.Post
+on-array-same-length-10 t c = c .before .before .before .before .before .before .before .before .before .before .before .before .before .before .before .before .before .before .before .before .before .before .before .on-items .kept .1 .1 .0
 
-walk-array-same-length-11 : (t : ℕ) → walk-array-lts.Need-same-length-11 (
+on-array-same-length-11 : (t : ℕ) → on-array-lts.Need-same-length-11 (
   number-at-reads.Asked,
   number-at-reads.Learnt,
   constants-reads.Asked,
@@ -652,14 +652,14 @@ walk-array-same-length-11 : (t : ℕ) → walk-array-lts.Need-same-length-11 (
   open-frame-reads.Learnt,
   not-opened-reads.Asked,
   not-opened-reads.Learnt,
-  walk-items-below t,
-  walk-items.Post,
+  on-items-below t,
+  on-items.Post,
   close-array-reads.Asked,
   close-array-reads.Learnt,
-) (walk-array-at t) walk-array.Post
-walk-array-same-length-11 t c = c .before .before .before .before .before .before .before .before .before .before .before .before .before .before .before .before .before .before .before .before .before .before .before .walk-items .kept .1 .1 .1 .0
+) (on-array-at t) on-array.Post
+on-array-same-length-11 t c = c .before .before .before .before .before .before .before .before .before .before .before .before .before .before .before .before .before .before .before .before .before .before .before .on-items .kept .1 .1 .1 .0
 
-walk-array-same-length-12 : (t : ℕ) → walk-array-lts.Need-same-length-12 (
+on-array-same-length-12 : (t : ℕ) → on-array-lts.Need-same-length-12 (
   number-at-reads.Asked,
   number-at-reads.Learnt,
   constants-reads.Asked,
@@ -670,14 +670,14 @@ walk-array-same-length-12 : (t : ℕ) → walk-array-lts.Need-same-length-12 (
   open-frame-reads.Learnt,
   not-opened-reads.Asked,
   not-opened-reads.Learnt,
-  walk-items-below t,
-  walk-items.Post,
+  on-items-below t,
+  on-items.Post,
   close-array-reads.Asked,
   close-array-reads.Learnt,
-) (walk-array-at t) walk-array.Post
-walk-array-same-length-12 t c = c .before .before .before .before .before .before .before .before .before .before .before .before .before .before .before .before .before .before .before .before .before .before .before .walk-items .kept .1 .1 .1 .1 .0 ∙ c .before .before .before .before .before .before .before .before .before .before .before .before .before .before .before .before .before .before .before .before .before .before .before .before .before .before .before .before .before .before .before .before .before .before .before .open-frame .kept .0
+) (on-array-at t) on-array.Post
+on-array-same-length-12 t c = c .before .before .before .before .before .before .before .before .before .before .before .before .before .before .before .before .before .before .before .before .before .before .before .on-items .kept .1 .1 .1 .1 .0 ∙ c .before .before .before .before .before .before .before .before .before .before .before .before .before .before .before .before .before .before .before .before .before .before .before .before .before .before .before .before .before .before .before .before .before .before .before .open-frame .kept .0
 
-walk-array-same-length-13 : (t : ℕ) → walk-array-lts.Need-same-length-13 (
+on-array-same-length-13 : (t : ℕ) → on-array-lts.Need-same-length-13 (
   number-at-reads.Asked,
   number-at-reads.Learnt,
   constants-reads.Asked,
@@ -688,14 +688,14 @@ walk-array-same-length-13 : (t : ℕ) → walk-array-lts.Need-same-length-13 (
   open-frame-reads.Learnt,
   not-opened-reads.Asked,
   not-opened-reads.Learnt,
-  walk-items-below t,
-  walk-items.Post,
+  on-items-below t,
+  on-items.Post,
   close-array-reads.Asked,
   close-array-reads.Learnt,
-) (walk-array-at t) walk-array.Post
-walk-array-same-length-13 t c = c .before .before .before .before .close-array .kept .1 .1 .0 ∙ c .before .before .before .before .before .before .before .before .before .before .before .before .before .before .before .before .before .before .before .before .before .before .before .walk-items .kept .1 .1 .1 .1 .1 .0
+) (on-array-at t) on-array.Post
+on-array-same-length-13 t c = c .before .before .before .before .close-array .kept .1 .1 .0 ∙ c .before .before .before .before .before .before .before .before .before .before .before .before .before .before .before .before .before .before .before .before .before .before .before .on-items .kept .1 .1 .1 .1 .1 .0
 
-walk-array-same-length-14 : (t : ℕ) → walk-array-lts.Need-same-length-14 (
+on-array-same-length-14 : (t : ℕ) → on-array-lts.Need-same-length-14 (
   number-at-reads.Asked,
   number-at-reads.Learnt,
   constants-reads.Asked,
@@ -706,14 +706,14 @@ walk-array-same-length-14 : (t : ℕ) → walk-array-lts.Need-same-length-14 (
   open-frame-reads.Learnt,
   not-opened-reads.Asked,
   not-opened-reads.Learnt,
-  walk-items-below t,
-  walk-items.Post,
+  on-items-below t,
+  on-items.Post,
   close-array-reads.Asked,
   close-array-reads.Learnt,
-) (walk-array-at t) walk-array.Post
-walk-array-same-length-14 t c = c .before .before .before .before .before .before .before .before .before .before .before .before .before .before .before .before .before .before .before .before .before .before .before .walk-items .kept .1 .1 .1 .1 .1 .1 .0
+) (on-array-at t) on-array.Post
+on-array-same-length-14 t c = c .before .before .before .before .before .before .before .before .before .before .before .before .before .before .before .before .before .before .before .before .before .before .before .on-items .kept .1 .1 .1 .1 .1 .1 .0
 
-walk-array-returns-4 : (t : ℕ) → walk-array-lts.Need-returns-4 (
+on-array-returns-4 : (t : ℕ) → on-array-lts.Need-returns-4 (
   number-at-reads.Asked,
   number-at-reads.Learnt,
   constants-reads.Asked,
@@ -724,12 +724,12 @@ walk-array-returns-4 : (t : ℕ) → walk-array-lts.Need-returns-4 (
   open-frame-reads.Learnt,
   not-opened-reads.Asked,
   not-opened-reads.Learnt,
-  walk-items-below t,
-  walk-items.Post,
+  on-items-below t,
+  on-items.Post,
   close-array-reads.Asked,
   close-array-reads.Learnt,
-) (walk-array-at t) walk-array.Post
-walk-array-returns-4 t c =
+) (on-array-at t) on-array.Post
+on-array-returns-4 t c =
     let args· = c .before .before .before .before .before .before .before .before .before .before .before .before .before .before .before .before .before .before .before .before .before .before .before .before .before .before .before .before .before .before .before .before .before .before .before .before .before .before .before .before .before .before .before .before .before .before .before .args in
     let pre· = c .before .before .before .before .before .before .before .before .before .before .before .before .before .before .before .before .before .before .before .before .before .before .before .before .before .before .before .before .before .before .before .before .before .before .before .before .before .before .before .before .before .before .before .before .before .before .before .pre in
     let number-at· = c .before .before .before .before .before .before .before .before .before .before .before .before .before .before .before .before .before .before .before .before .before .before .before .before .before .before .before .before .before .before .before .before .before .before .before .before .before .before .before .number-at in
@@ -737,12 +737,12 @@ walk-array-returns-4 t c =
     let if1· = c .before .before .before .before .before .before .before .before .before .before .before .before .before .before .before .before .before .before .before .before .before .before .before .before .before .before .before .before .before .before .before .before .before .before .before .before .before .if1 in
     let open-frame· = c .before .before .before .before .before .before .before .before .before .before .before .before .before .before .before .before .before .before .before .before .before .before .before .before .before .before .before .before .before .before .before .before .before .before .before .open-frame in
     let opened· = c .before .before .before .before .before .before .before .before .before .before .before .before .before .before .before .before .before .before .before .before .before .before .before .before .before .before .before .before .before .before .before .opened in
-    let walk-items· = c .before .before .before .before .before .before .before .before .before .before .before .before .before .before .before .before .before .before .before .before .before .before .before .walk-items in
+    let on-items· = c .before .before .before .before .before .before .before .before .before .before .before .before .before .before .before .before .before .before .before .before .before .before .before .on-items in
     let w· = c .before .before .before .before .before .before .before .before .before .w in
     let close-array· = c .before .before .before .before .close-array in
-    λ ν. array-ended (args· .tree .now) (args· .nest) (args· .at) (pre· .1 .1) ν (place-of (args· .here)) (number-at· .ensures) (constants· .ensures) (if1· .left) (opened (open-frame· .ensures) ((pre· .1 .0) .fit)) (opened· .given .1) (record { out = refl; diagnostics = refl }) (walk-items· .ensures) (w· .given .1) (record { out = walk-items· .kept .1 .0; diagnostics = walk-items· .kept .1 .1 .0 }) (close-array· .ensures .walks _ _ _ _ (went-fit (walk-items· .ensures) (w· .given .1)))
+    λ ν. array-ended (args· .tree .now) (args· .nest) (args· .at) (pre· .1 .1) ν (place-of (args· .here)) (number-at· .ensures) (constants· .ensures) (if1· .left) (opened (open-frame· .ensures) ((pre· .1 .0) .fit)) (opened· .given .1) (record { out = refl; diagnostics = refl }) (on-items· .ensures) (w· .given .1) (record { out = on-items· .kept .1 .0; diagnostics = on-items· .kept .1 .1 .0 }) (close-array· .ensures .walks _ _ _ _ (went-fit (on-items· .ensures) (w· .given .1)))
 
-pub walk-array-met : {M : Type 1} (t : ℕ) → walk-array-lts.Closed (
+pub on-array-met : {M : Type 1} (t : ℕ) → on-array-lts.Closed (
   number-at-reads.Asked,
   number-at-reads.Learnt,
   constants-reads.Asked,
@@ -753,12 +753,12 @@ pub walk-array-met : {M : Type 1} (t : ℕ) → walk-array-lts.Closed (
   open-frame-reads.Learnt,
   not-opened-reads.Asked,
   not-opened-reads.Learnt,
-  walk-items-below t,
-  walk-items.Post,
+  on-items-below t,
+  on-items.Post,
   close-array-reads.Asked,
   close-array-reads.Learnt,
-) (walk-array-at t) walk-array.Post M
-walk-array-met t = walk-array-lts.spec (
+) (on-array-at t) on-array.Post M
+on-array-met t = on-array-lts.spec (
   number-at-reads.Asked,
   number-at-reads.Learnt,
   constants-reads.Asked,
@@ -769,46 +769,46 @@ walk-array-met t = walk-array-lts.spec (
   open-frame-reads.Learnt,
   not-opened-reads.Asked,
   not-opened-reads.Learnt,
-  walk-items-below t,
-  walk-items.Post,
+  on-items-below t,
+  on-items.Post,
   close-array-reads.Asked,
   close-array-reads.Learnt,
 )
-    (walk-array-at t)
-    walk-array.Post
-    (walk-array-add-number-at t)
-    (walk-array-number-at-requires t)
-    (walk-array-add-constants t)
-    (walk-array-cast-constants t)
-    (walk-array-constants-requires t)
-    (walk-array-cast-emit-constants t)
-    (walk-array-emit-constants-requires t)
-    (walk-array-same-length t)
-    (walk-array-returns t)
-    (walk-array-open-frame-requires t)
-    (walk-array-enum-known-opened t)
-    (walk-array-enum-told t)
-    (walk-array-not-opened-requires t)
-    (walk-array-same-length-2 t)
-    (walk-array-returns-2 t)
-    (walk-array-add-walk-items t)
-    (walk-array-sub-walk-items t)
-    (walk-array-cast-walk-items t)
-    (walk-array-walk-items-requires t)
-    (walk-array-enum-known-w t)
-    (walk-array-enum-told-2 t)
-    (walk-array-same-length-3 t)
-    (walk-array-same-length-4 t)
-    (walk-array-same-length-5 t)
-    (walk-array-same-length-6 t)
-    (walk-array-same-length-7 t)
-    (walk-array-same-length-8 t)
-    (walk-array-returns-3 t)
-    (walk-array-close-array-requires t)
-    (walk-array-same-length-9 t)
-    (walk-array-same-length-10 t)
-    (walk-array-same-length-11 t)
-    (walk-array-same-length-12 t)
-    (walk-array-same-length-13 t)
-    (walk-array-same-length-14 t)
-    (walk-array-returns-4 t)
+    (on-array-at t)
+    on-array.Post
+    (on-array-add-number-at t)
+    (on-array-number-at-requires t)
+    (on-array-add-constants t)
+    (on-array-cast-constants t)
+    (on-array-constants-requires t)
+    (on-array-cast-emit-constants t)
+    (on-array-emit-constants-requires t)
+    (on-array-same-length t)
+    (on-array-returns t)
+    (on-array-open-frame-requires t)
+    (on-array-enum-known-opened t)
+    (on-array-enum-told t)
+    (on-array-not-opened-requires t)
+    (on-array-same-length-2 t)
+    (on-array-returns-2 t)
+    (on-array-add-on-items t)
+    (on-array-sub-on-items t)
+    (on-array-cast-on-items t)
+    (on-array-on-items-requires t)
+    (on-array-enum-known-w t)
+    (on-array-enum-told-2 t)
+    (on-array-same-length-3 t)
+    (on-array-same-length-4 t)
+    (on-array-same-length-5 t)
+    (on-array-same-length-6 t)
+    (on-array-same-length-7 t)
+    (on-array-same-length-8 t)
+    (on-array-returns-3 t)
+    (on-array-close-array-requires t)
+    (on-array-same-length-9 t)
+    (on-array-same-length-10 t)
+    (on-array-same-length-11 t)
+    (on-array-same-length-12 t)
+    (on-array-same-length-13 t)
+    (on-array-same-length-14 t)
+    (on-array-returns-4 t)

@@ -17,26 +17,26 @@ use Rattle.joins.proofs.Asking.{fitting, references-counted}
 use Rattle.joins.proofs.Stages.{stage-settleable, stage-body, stage-ends, local-binds-there, local-stage}
 use Rattle.joins.proofs.Returns.{local-only, local-unbegun, local-binds-stopped, local-body-stopped, local-ended}
 use Rattle.walkers.proofs.analyze.Reads as analyze
-use Rattle.walkers.proofs.walk_binds.Reads as walk-binds
-use Rattle.walkers.proofs.walk_local.Reads as walk-local
-use Rattle.walkers.proofs.+analyze+analyze_function+analyze_obj_members+walk_array+walk_assertions+walk_bind+walk_binds+walk_fields+walk_head+walk_heads+walk_held+walk_item+walk_items+walk_local+walk_object+walk_param+walk_params+walk_plain+walk_value+walk_values.Lts-walk_local as walk-local-lts
+use Rattle.walkers.proofs.on_binds.Reads as on-binds
+use Rattle.walkers.proofs.on_local.Reads as on-local
+use Rattle.walkers.proofs.+analyze+on_array+on_assertions+on_bind+on_binds+on_fields+on_function+on_head+on_heads+on_held+on_item+on_items+on_local+on_members+on_object+on_param+on_params+on_plain+on_value+on_values.Lts-on_local as on-local-lts
 use Rattle.closing.proofs.finish_local.Reads as finish-local-reads
 use Rattle.closing.proofs.settle_frame.Reads as settle-frame-reads
 use Rattle.opening.proofs.begin_local.Reads as begin-local-reads
 use Rattle.opening.proofs.deeper.Reads as deeper-reads
 use Rattle.packed.proofs.number_at.Reads as number-at-reads
 use Rattle.walkers.proofs.not_kept.Reads as not-kept-reads
-use Rattle.walkers.proofs.+analyze+analyze_function+analyze_obj_members+walk_array+walk_assertions+walk_bind+walk_binds+walk_fields+walk_head+walk_heads+walk_held+walk_item+walk_items+walk_local+walk_object+walk_param+walk_params+walk_plain+walk_value+walk_values.Proof.Measures.{analyze-below, walk-binds-below, walk-local-at}
+use Rattle.walkers.proofs.+analyze+on_array+on_assertions+on_bind+on_binds+on_fields+on_function+on_head+on_heads+on_held+on_item+on_items+on_local+on_members+on_object+on_param+on_params+on_plain+on_value+on_values.Proof.Measures.{analyze-below, on-binds-below, on-local-at}
 
-walk-local-add-number-at : (t : ℕ) → walk-local-lts.Need-add-number-at (
+on-local-add-number-at : (t : ℕ) → on-local-lts.Need-add-number-at (
   number-at-reads.Asked,
   number-at-reads.Learnt,
   analyze-below t,
   analyze.Post,
   begin-local-reads.Asked,
   begin-local-reads.Learnt,
-  walk-binds-below t,
-  walk-binds.Post,
+  on-binds-below t,
+  on-binds.Post,
   not-kept-reads.Asked,
   not-kept-reads.Learnt,
   settle-frame-reads.Asked,
@@ -45,21 +45,21 @@ walk-local-add-number-at : (t : ℕ) → walk-local-lts.Need-add-number-at (
   deeper-reads.Learnt,
   finish-local-reads.Asked,
   finish-local-reads.Learnt,
-) (walk-local-at t) walk-local.Post
-walk-local-add-number-at t c =
+) (on-local-at t) on-local.Post
+on-local-add-number-at t c =
     let args· = c .before .before .before .before .before .before .before .args in
     let pre· = c .before .before .before .before .before .before .before .pre in
     omega (arith, (local-size (args· .tree .now) (args· .nest) (args· .at) ((pre· .1 .1) .read) ((pre· .1 .1) .marked)), (pre· .1 .0) .short)
 
-walk-local-number-at-requires : (t : ℕ) → walk-local-lts.Need-number-at-requires (
+on-local-number-at-requires : (t : ℕ) → on-local-lts.Need-number-at-requires (
   number-at-reads.Asked,
   number-at-reads.Learnt,
   analyze-below t,
   analyze.Post,
   begin-local-reads.Asked,
   begin-local-reads.Learnt,
-  walk-binds-below t,
-  walk-binds.Post,
+  on-binds-below t,
+  on-binds.Post,
   not-kept-reads.Asked,
   not-kept-reads.Learnt,
   settle-frame-reads.Asked,
@@ -68,18 +68,18 @@ walk-local-number-at-requires : (t : ℕ) → walk-local-lts.Need-number-at-requ
   deeper-reads.Learnt,
   finish-local-reads.Asked,
   finish-local-reads.Learnt,
-) (walk-local-at t) walk-local.Post
-walk-local-number-at-requires t c κs = search needs
+) (on-local-at t) on-local.Post
+on-local-number-at-requires t c κs = search needs
 
-walk-local-add-analyze : (t : ℕ) → walk-local-lts.Need-add-analyze (
+on-local-add-analyze : (t : ℕ) → on-local-lts.Need-add-analyze (
   number-at-reads.Asked,
   number-at-reads.Learnt,
   analyze-below t,
   analyze.Post,
   begin-local-reads.Asked,
   begin-local-reads.Learnt,
-  walk-binds-below t,
-  walk-binds.Post,
+  on-binds-below t,
+  on-binds.Post,
   not-kept-reads.Asked,
   not-kept-reads.Learnt,
   settle-frame-reads.Asked,
@@ -88,21 +88,21 @@ walk-local-add-analyze : (t : ℕ) → walk-local-lts.Need-add-analyze (
   deeper-reads.Learnt,
   finish-local-reads.Asked,
   finish-local-reads.Learnt,
-) (walk-local-at t) walk-local.Post
-walk-local-add-analyze t c =
+) (on-local-at t) on-local.Post
+on-local-add-analyze t c =
     let args· = c .before .before .before .before .before .before .before .before .before .before .before .before .before .before .before .args in
     let pre· = c .before .before .before .before .before .before .before .before .before .before .before .before .before .before .before .pre in
     omega (arith, (local-size (args· .tree .now) (args· .nest) (args· .at) ((pre· .1 .1) .read) ((pre· .1 .1) .marked)), (pre· .1 .0) .short)
 
-walk-local-sub-analyze : (t : ℕ) → walk-local-lts.Need-sub-analyze (
+on-local-sub-analyze : (t : ℕ) → on-local-lts.Need-sub-analyze (
   number-at-reads.Asked,
   number-at-reads.Learnt,
   analyze-below t,
   analyze.Post,
   begin-local-reads.Asked,
   begin-local-reads.Learnt,
-  walk-binds-below t,
-  walk-binds.Post,
+  on-binds-below t,
+  on-binds.Post,
   not-kept-reads.Asked,
   not-kept-reads.Learnt,
   settle-frame-reads.Asked,
@@ -111,21 +111,21 @@ walk-local-sub-analyze : (t : ℕ) → walk-local-lts.Need-sub-analyze (
   deeper-reads.Learnt,
   finish-local-reads.Asked,
   finish-local-reads.Learnt,
-) (walk-local-at t) walk-local.Post
-walk-local-sub-analyze t c =
+) (on-local-at t) on-local.Post
+on-local-sub-analyze t c =
     let args· = c .before .before .before .before .before .before .before .before .before .before .before .before .before .before .before .args in
     let pre· = c .before .before .before .before .before .before .before .before .before .before .before .before .before .before .before .pre in
     omega (arith, (expr-level (args· .tree .now) (args· .nest) any-expression (args· .at) ((pre· .1 .1) .read)))
 
-walk-local-analyze-requires : (t : ℕ) → walk-local-lts.Need-analyze-requires (
+on-local-analyze-requires : (t : ℕ) → on-local-lts.Need-analyze-requires (
   number-at-reads.Asked,
   number-at-reads.Learnt,
   analyze-below t,
   analyze.Post,
   begin-local-reads.Asked,
   begin-local-reads.Learnt,
-  walk-binds-below t,
-  walk-binds.Post,
+  on-binds-below t,
+  on-binds.Post,
   not-kept-reads.Asked,
   not-kept-reads.Learnt,
   settle-frame-reads.Asked,
@@ -134,24 +134,24 @@ walk-local-analyze-requires : (t : ℕ) → walk-local-lts.Need-analyze-requires
   deeper-reads.Learnt,
   finish-local-reads.Asked,
   finish-local-reads.Learnt,
-) (walk-local-at t) walk-local.Post
+) (on-local-at t) on-local.Post
 unfolding naming-of
-walk-local-analyze-requires t c κs =
+on-local-analyze-requires t c κs =
     let pre· = c .before .before .before .before .before .before .before .before .before .before .before .before .before .before .before .pre in
     let args· = c .before .before .before .before .before .before .before .before .before .before .before .before .before .before .before .args in
     let number-at· = c .before .before .before .before .before .before .before .number-at in
     let if1· = c .before .before .before .before .before .before .if1 in
     (omega (arith, pre· .0, (expr-level (args· .tree .now) (args· .nest) any-expression (args· .at) ((pre· .1 .1) .read))), ((ready-on (omega arith) (omega arith) (pre· .1 .0)), local-only-body (args· .tree .now) (args· .nest) (args· .at) ((pre· .1 .1) .read) ((pre· .1 .1) .marked) (sym (number-at· .ensures) ∙ (if1· .taken))))
 
-walk-local-same-length : (t : ℕ) → walk-local-lts.Need-same-length (
+on-local-same-length : (t : ℕ) → on-local-lts.Need-same-length (
   number-at-reads.Asked,
   number-at-reads.Learnt,
   analyze-below t,
   analyze.Post,
   begin-local-reads.Asked,
   begin-local-reads.Learnt,
-  walk-binds-below t,
-  walk-binds.Post,
+  on-binds-below t,
+  on-binds.Post,
   not-kept-reads.Asked,
   not-kept-reads.Learnt,
   settle-frame-reads.Asked,
@@ -160,18 +160,18 @@ walk-local-same-length : (t : ℕ) → walk-local-lts.Need-same-length (
   deeper-reads.Learnt,
   finish-local-reads.Asked,
   finish-local-reads.Learnt,
-) (walk-local-at t) walk-local.Post
-walk-local-same-length t c = c .before .before .before .before .before .before .before .before .before .before .before .before .analyze .kept .1 .0
+) (on-local-at t) on-local.Post
+on-local-same-length t c = c .before .before .before .before .before .before .before .before .before .before .before .before .analyze .kept .1 .0
 
-walk-local-same-length-2 : (t : ℕ) → walk-local-lts.Need-same-length-2 (
+on-local-same-length-2 : (t : ℕ) → on-local-lts.Need-same-length-2 (
   number-at-reads.Asked,
   number-at-reads.Learnt,
   analyze-below t,
   analyze.Post,
   begin-local-reads.Asked,
   begin-local-reads.Learnt,
-  walk-binds-below t,
-  walk-binds.Post,
+  on-binds-below t,
+  on-binds.Post,
   not-kept-reads.Asked,
   not-kept-reads.Learnt,
   settle-frame-reads.Asked,
@@ -180,18 +180,18 @@ walk-local-same-length-2 : (t : ℕ) → walk-local-lts.Need-same-length-2 (
   deeper-reads.Learnt,
   finish-local-reads.Asked,
   finish-local-reads.Learnt,
-) (walk-local-at t) walk-local.Post
-walk-local-same-length-2 t c = c .before .before .before .before .before .before .before .before .before .before .before .before .analyze .kept .1 .1 .0
+) (on-local-at t) on-local.Post
+on-local-same-length-2 t c = c .before .before .before .before .before .before .before .before .before .before .before .before .analyze .kept .1 .1 .0
 
-walk-local-same-length-3 : (t : ℕ) → walk-local-lts.Need-same-length-3 (
+on-local-same-length-3 : (t : ℕ) → on-local-lts.Need-same-length-3 (
   number-at-reads.Asked,
   number-at-reads.Learnt,
   analyze-below t,
   analyze.Post,
   begin-local-reads.Asked,
   begin-local-reads.Learnt,
-  walk-binds-below t,
-  walk-binds.Post,
+  on-binds-below t,
+  on-binds.Post,
   not-kept-reads.Asked,
   not-kept-reads.Learnt,
   settle-frame-reads.Asked,
@@ -200,18 +200,18 @@ walk-local-same-length-3 : (t : ℕ) → walk-local-lts.Need-same-length-3 (
   deeper-reads.Learnt,
   finish-local-reads.Asked,
   finish-local-reads.Learnt,
-) (walk-local-at t) walk-local.Post
-walk-local-same-length-3 t c = c .before .before .before .before .before .before .before .before .before .before .before .before .analyze .kept .1 .1 .1 .0
+) (on-local-at t) on-local.Post
+on-local-same-length-3 t c = c .before .before .before .before .before .before .before .before .before .before .before .before .analyze .kept .1 .1 .1 .0
 
-walk-local-same-length-4 : (t : ℕ) → walk-local-lts.Need-same-length-4 (
+on-local-same-length-4 : (t : ℕ) → on-local-lts.Need-same-length-4 (
   number-at-reads.Asked,
   number-at-reads.Learnt,
   analyze-below t,
   analyze.Post,
   begin-local-reads.Asked,
   begin-local-reads.Learnt,
-  walk-binds-below t,
-  walk-binds.Post,
+  on-binds-below t,
+  on-binds.Post,
   not-kept-reads.Asked,
   not-kept-reads.Learnt,
   settle-frame-reads.Asked,
@@ -220,18 +220,18 @@ walk-local-same-length-4 : (t : ℕ) → walk-local-lts.Need-same-length-4 (
   deeper-reads.Learnt,
   finish-local-reads.Asked,
   finish-local-reads.Learnt,
-) (walk-local-at t) walk-local.Post
-walk-local-same-length-4 t c = c .before .before .before .before .before .before .before .before .before .before .before .before .analyze .kept .1 .1 .1 .1 .0
+) (on-local-at t) on-local.Post
+on-local-same-length-4 t c = c .before .before .before .before .before .before .before .before .before .before .before .before .analyze .kept .1 .1 .1 .1 .0
 
-walk-local-same-length-5 : (t : ℕ) → walk-local-lts.Need-same-length-5 (
+on-local-same-length-5 : (t : ℕ) → on-local-lts.Need-same-length-5 (
   number-at-reads.Asked,
   number-at-reads.Learnt,
   analyze-below t,
   analyze.Post,
   begin-local-reads.Asked,
   begin-local-reads.Learnt,
-  walk-binds-below t,
-  walk-binds.Post,
+  on-binds-below t,
+  on-binds.Post,
   not-kept-reads.Asked,
   not-kept-reads.Learnt,
   settle-frame-reads.Asked,
@@ -240,18 +240,18 @@ walk-local-same-length-5 : (t : ℕ) → walk-local-lts.Need-same-length-5 (
   deeper-reads.Learnt,
   finish-local-reads.Asked,
   finish-local-reads.Learnt,
-) (walk-local-at t) walk-local.Post
-walk-local-same-length-5 t c = c .before .before .before .before .before .before .before .before .before .before .before .before .analyze .kept .1 .1 .1 .1 .1 .0
+) (on-local-at t) on-local.Post
+on-local-same-length-5 t c = c .before .before .before .before .before .before .before .before .before .before .before .before .analyze .kept .1 .1 .1 .1 .1 .0
 
-walk-local-same-length-6 : (t : ℕ) → walk-local-lts.Need-same-length-6 (
+on-local-same-length-6 : (t : ℕ) → on-local-lts.Need-same-length-6 (
   number-at-reads.Asked,
   number-at-reads.Learnt,
   analyze-below t,
   analyze.Post,
   begin-local-reads.Asked,
   begin-local-reads.Learnt,
-  walk-binds-below t,
-  walk-binds.Post,
+  on-binds-below t,
+  on-binds.Post,
   not-kept-reads.Asked,
   not-kept-reads.Learnt,
   settle-frame-reads.Asked,
@@ -260,18 +260,18 @@ walk-local-same-length-6 : (t : ℕ) → walk-local-lts.Need-same-length-6 (
   deeper-reads.Learnt,
   finish-local-reads.Asked,
   finish-local-reads.Learnt,
-) (walk-local-at t) walk-local.Post
-walk-local-same-length-6 t c = c .before .before .before .before .before .before .before .before .before .before .before .before .analyze .kept .1 .1 .1 .1 .1 .1 .0
+) (on-local-at t) on-local.Post
+on-local-same-length-6 t c = c .before .before .before .before .before .before .before .before .before .before .before .before .analyze .kept .1 .1 .1 .1 .1 .1 .0
 
-walk-local-returns : (t : ℕ) → walk-local-lts.Need-returns (
+on-local-returns : (t : ℕ) → on-local-lts.Need-returns (
   number-at-reads.Asked,
   number-at-reads.Learnt,
   analyze-below t,
   analyze.Post,
   begin-local-reads.Asked,
   begin-local-reads.Learnt,
-  walk-binds-below t,
-  walk-binds.Post,
+  on-binds-below t,
+  on-binds.Post,
   not-kept-reads.Asked,
   not-kept-reads.Learnt,
   settle-frame-reads.Asked,
@@ -280,9 +280,9 @@ walk-local-returns : (t : ℕ) → walk-local-lts.Need-returns (
   deeper-reads.Learnt,
   finish-local-reads.Asked,
   finish-local-reads.Learnt,
-) (walk-local-at t) walk-local.Post
+) (on-local-at t) on-local.Post
 unfolding place-of naming-of
-walk-local-returns t c =
+on-local-returns t c =
     let args· = c .before .before .before .before .before .before .before .before .before .before .before .before .before .before .before .before .before .before .before .before .before .before .before .before .before .before .before .before .args in
     let pre· = c .before .before .before .before .before .before .before .before .before .before .before .before .before .before .before .before .before .before .before .before .before .before .before .before .before .before .before .before .pre in
     let number-at· = c .before .before .before .before .before .before .before .before .before .before .before .before .before .before .before .before .before .before .before .before .number-at in
@@ -290,15 +290,15 @@ walk-local-returns t c =
     let analyze· = c .before .before .before .before .before .before .before .before .before .before .before .before .analyze in
     λ ν. local-only (args· .tree .now) (args· .nest) (args· .at) (pre· .1 .1) ν (place-of (args· .here)) (number-at· .ensures) (if1· .taken) (analyze· .ensures)
 
-walk-local-begin-local-requires : (t : ℕ) → walk-local-lts.Need-begin-local-requires (
+on-local-begin-local-requires : (t : ℕ) → on-local-lts.Need-begin-local-requires (
   number-at-reads.Asked,
   number-at-reads.Learnt,
   analyze-below t,
   analyze.Post,
   begin-local-reads.Asked,
   begin-local-reads.Learnt,
-  walk-binds-below t,
-  walk-binds.Post,
+  on-binds-below t,
+  on-binds.Post,
   not-kept-reads.Asked,
   not-kept-reads.Learnt,
   settle-frame-reads.Asked,
@@ -307,22 +307,22 @@ walk-local-begin-local-requires : (t : ℕ) → walk-local-lts.Need-begin-local-
   deeper-reads.Learnt,
   finish-local-reads.Asked,
   finish-local-reads.Learnt,
-) (walk-local-at t) walk-local.Post
-walk-local-begin-local-requires t c κs =
+) (on-local-at t) on-local.Post
+on-local-begin-local-requires t c κs =
     let args· = c .before .before .before .before .before .before .before .before .before .before .before .before .args in
     let pre· = c .before .before .before .before .before .before .before .before .before .before .before .before .pre in
     let number-at· = c .before .before .before .before .number-at in
     (record { levels = (args· .nest) - 1; read = (local-binds-there (pre· .1 .0) (pre· .1 .1) (number-at· .ensures)) }, (local-size (args· .tree .now) (args· .nest) (args· .at) ((pre· .1 .1) .read) ((pre· .1 .1) .marked)), omega (arith, (pre· .1 .0) .short), fitting ((pre· .1 .0) .fit))
 
-walk-local-enum-known-begun : (t : ℕ) → walk-local-lts.Need-enum-known-begun (
+on-local-enum-known-begun : (t : ℕ) → on-local-lts.Need-enum-known-begun (
   number-at-reads.Asked,
   number-at-reads.Learnt,
   analyze-below t,
   analyze.Post,
   begin-local-reads.Asked,
   begin-local-reads.Learnt,
-  walk-binds-below t,
-  walk-binds.Post,
+  on-binds-below t,
+  on-binds.Post,
   not-kept-reads.Asked,
   not-kept-reads.Learnt,
   settle-frame-reads.Asked,
@@ -331,18 +331,18 @@ walk-local-enum-known-begun : (t : ℕ) → walk-local-lts.Need-enum-known-begun
   deeper-reads.Learnt,
   finish-local-reads.Asked,
   finish-local-reads.Learnt,
-) (walk-local-at t) walk-local.Post
-walk-local-enum-known-begun t c = search needs
+) (on-local-at t) on-local.Post
+on-local-enum-known-begun t c = search needs
 
-walk-local-enum-told : (t : ℕ) → walk-local-lts.Need-enum-told (
+on-local-enum-told : (t : ℕ) → on-local-lts.Need-enum-told (
   number-at-reads.Asked,
   number-at-reads.Learnt,
   analyze-below t,
   analyze.Post,
   begin-local-reads.Asked,
   begin-local-reads.Learnt,
-  walk-binds-below t,
-  walk-binds.Post,
+  on-binds-below t,
+  on-binds.Post,
   not-kept-reads.Asked,
   not-kept-reads.Learnt,
   settle-frame-reads.Asked,
@@ -351,18 +351,18 @@ walk-local-enum-told : (t : ℕ) → walk-local-lts.Need-enum-told (
   deeper-reads.Learnt,
   finish-local-reads.Asked,
   finish-local-reads.Learnt,
-) (walk-local-at t) walk-local.Post
-walk-local-enum-told t c = search needs
+) (on-local-at t) on-local.Post
+on-local-enum-told t c = search needs
 
-walk-local-same-length-7 : (t : ℕ) → walk-local-lts.Need-same-length-7 (
+on-local-same-length-7 : (t : ℕ) → on-local-lts.Need-same-length-7 (
   number-at-reads.Asked,
   number-at-reads.Learnt,
   analyze-below t,
   analyze.Post,
   begin-local-reads.Asked,
   begin-local-reads.Learnt,
-  walk-binds-below t,
-  walk-binds.Post,
+  on-binds-below t,
+  on-binds.Post,
   not-kept-reads.Asked,
   not-kept-reads.Learnt,
   settle-frame-reads.Asked,
@@ -371,18 +371,18 @@ walk-local-same-length-7 : (t : ℕ) → walk-local-lts.Need-same-length-7 (
   deeper-reads.Learnt,
   finish-local-reads.Asked,
   finish-local-reads.Learnt,
-) (walk-local-at t) walk-local.Post
-walk-local-same-length-7 t c = c .before .before .before .before .before .before .before .before .begin-local .kept .1 .0
+) (on-local-at t) on-local.Post
+on-local-same-length-7 t c = c .before .before .before .before .before .before .before .before .begin-local .kept .1 .0
 
-walk-local-same-length-8 : (t : ℕ) → walk-local-lts.Need-same-length-8 (
+on-local-same-length-8 : (t : ℕ) → on-local-lts.Need-same-length-8 (
   number-at-reads.Asked,
   number-at-reads.Learnt,
   analyze-below t,
   analyze.Post,
   begin-local-reads.Asked,
   begin-local-reads.Learnt,
-  walk-binds-below t,
-  walk-binds.Post,
+  on-binds-below t,
+  on-binds.Post,
   not-kept-reads.Asked,
   not-kept-reads.Learnt,
   settle-frame-reads.Asked,
@@ -391,18 +391,18 @@ walk-local-same-length-8 : (t : ℕ) → walk-local-lts.Need-same-length-8 (
   deeper-reads.Learnt,
   finish-local-reads.Asked,
   finish-local-reads.Learnt,
-) (walk-local-at t) walk-local.Post
-walk-local-same-length-8 t c = c .before .before .before .before .before .before .before .before .begin-local .kept .1 .1 .0
+) (on-local-at t) on-local.Post
+on-local-same-length-8 t c = c .before .before .before .before .before .before .before .before .begin-local .kept .1 .1 .0
 
-walk-local-same-length-9 : (t : ℕ) → walk-local-lts.Need-same-length-9 (
+on-local-same-length-9 : (t : ℕ) → on-local-lts.Need-same-length-9 (
   number-at-reads.Asked,
   number-at-reads.Learnt,
   analyze-below t,
   analyze.Post,
   begin-local-reads.Asked,
   begin-local-reads.Learnt,
-  walk-binds-below t,
-  walk-binds.Post,
+  on-binds-below t,
+  on-binds.Post,
   not-kept-reads.Asked,
   not-kept-reads.Learnt,
   settle-frame-reads.Asked,
@@ -411,18 +411,18 @@ walk-local-same-length-9 : (t : ℕ) → walk-local-lts.Need-same-length-9 (
   deeper-reads.Learnt,
   finish-local-reads.Asked,
   finish-local-reads.Learnt,
-) (walk-local-at t) walk-local.Post
-walk-local-same-length-9 t c = c .before .before .before .before .before .before .before .before .begin-local .kept .1 .1 .1 .0
+) (on-local-at t) on-local.Post
+on-local-same-length-9 t c = c .before .before .before .before .before .before .before .before .begin-local .kept .1 .1 .1 .0
 
-walk-local-returns-2 : (t : ℕ) → walk-local-lts.Need-returns-2 (
+on-local-returns-2 : (t : ℕ) → on-local-lts.Need-returns-2 (
   number-at-reads.Asked,
   number-at-reads.Learnt,
   analyze-below t,
   analyze.Post,
   begin-local-reads.Asked,
   begin-local-reads.Learnt,
-  walk-binds-below t,
-  walk-binds.Post,
+  on-binds-below t,
+  on-binds.Post,
   not-kept-reads.Asked,
   not-kept-reads.Learnt,
   settle-frame-reads.Asked,
@@ -431,9 +431,9 @@ walk-local-returns-2 : (t : ℕ) → walk-local-lts.Need-returns-2 (
   deeper-reads.Learnt,
   finish-local-reads.Asked,
   finish-local-reads.Learnt,
-) (walk-local-at t) walk-local.Post
+) (on-local-at t) on-local.Post
 unfolding place-of naming-of
-walk-local-returns-2 t c =
+on-local-returns-2 t c =
     let args· = c .before .before .before .before .before .before .before .before .before .before .before .before .before .before .before .before .before .before .before .before .before .args in
     let pre· = c .before .before .before .before .before .before .before .before .before .before .before .before .before .before .before .before .before .before .before .before .before .pre in
     let number-at· = c .before .before .before .before .before .before .before .before .before .before .before .before .before .number-at in
@@ -442,15 +442,15 @@ walk-local-returns-2 t c =
     let enum-told· = c .enum-told in
     λ ν. local-unbegun (args· .tree .now) (args· .nest) (args· .at) (pre· .1 .1) ν (place-of (args· .here)) (number-at· .ensures) (if1· .left) (begin-local· .ensures .begun ((args· .nest) - 1) (local-binds-there (pre· .1 .0) (pre· .1 .1) (number-at· .ensures)) _ _ _ ((pre· .1 .0) .fit)) (enum-told· .given .1)
 
-walk-local-add-walk-binds : (t : ℕ) → walk-local-lts.Need-add-walk-binds (
+on-local-add-on-binds : (t : ℕ) → on-local-lts.Need-add-on-binds (
   number-at-reads.Asked,
   number-at-reads.Learnt,
   analyze-below t,
   analyze.Post,
   begin-local-reads.Asked,
   begin-local-reads.Learnt,
-  walk-binds-below t,
-  walk-binds.Post,
+  on-binds-below t,
+  on-binds.Post,
   not-kept-reads.Asked,
   not-kept-reads.Learnt,
   settle-frame-reads.Asked,
@@ -459,21 +459,21 @@ walk-local-add-walk-binds : (t : ℕ) → walk-local-lts.Need-add-walk-binds (
   deeper-reads.Learnt,
   finish-local-reads.Asked,
   finish-local-reads.Learnt,
-) (walk-local-at t) walk-local.Post
-walk-local-add-walk-binds t c =
+) (on-local-at t) on-local.Post
+on-local-add-on-binds t c =
     let args· = c .before .before .before .before .before .before .before .before .before .before .before .before .before .before .before .before .before .before .before .before .before .before .before .before .before .before .before .before .args in
     let pre· = c .before .before .before .before .before .before .before .before .before .before .before .before .before .before .before .before .before .before .before .before .before .before .before .before .before .before .before .before .pre in
     omega (arith, (local-size (args· .tree .now) (args· .nest) (args· .at) ((pre· .1 .1) .read) ((pre· .1 .1) .marked)), (pre· .1 .0) .short)
 
-walk-local-sub-walk-binds : (t : ℕ) → walk-local-lts.Need-sub-walk-binds (
+on-local-sub-on-binds : (t : ℕ) → on-local-lts.Need-sub-on-binds (
   number-at-reads.Asked,
   number-at-reads.Learnt,
   analyze-below t,
   analyze.Post,
   begin-local-reads.Asked,
   begin-local-reads.Learnt,
-  walk-binds-below t,
-  walk-binds.Post,
+  on-binds-below t,
+  on-binds.Post,
   not-kept-reads.Asked,
   not-kept-reads.Learnt,
   settle-frame-reads.Asked,
@@ -482,21 +482,21 @@ walk-local-sub-walk-binds : (t : ℕ) → walk-local-lts.Need-sub-walk-binds (
   deeper-reads.Learnt,
   finish-local-reads.Asked,
   finish-local-reads.Learnt,
-) (walk-local-at t) walk-local.Post
-walk-local-sub-walk-binds t c =
+) (on-local-at t) on-local.Post
+on-local-sub-on-binds t c =
     let args· = c .before .before .before .before .before .before .before .before .before .before .before .before .before .before .before .before .before .before .before .before .before .before .before .before .before .before .before .before .args in
     let pre· = c .before .before .before .before .before .before .before .before .before .before .before .before .before .before .before .before .before .before .before .before .before .before .before .before .before .before .before .before .pre in
     omega (arith, (expr-level (args· .tree .now) (args· .nest) any-expression (args· .at) ((pre· .1 .1) .read)))
 
-walk-local-walk-binds-requires : (t : ℕ) → walk-local-lts.Need-walk-binds-requires (
+on-local-on-binds-requires : (t : ℕ) → on-local-lts.Need-on-binds-requires (
   number-at-reads.Asked,
   number-at-reads.Learnt,
   analyze-below t,
   analyze.Post,
   begin-local-reads.Asked,
   begin-local-reads.Learnt,
-  walk-binds-below t,
-  walk-binds.Post,
+  on-binds-below t,
+  on-binds.Post,
   not-kept-reads.Asked,
   not-kept-reads.Learnt,
   settle-frame-reads.Asked,
@@ -505,9 +505,9 @@ walk-local-walk-binds-requires : (t : ℕ) → walk-local-lts.Need-walk-binds-re
   deeper-reads.Learnt,
   finish-local-reads.Asked,
   finish-local-reads.Learnt,
-) (walk-local-at t) walk-local.Post
+) (on-local-at t) on-local.Post
 unfolding place-of naming-of
-walk-local-walk-binds-requires t c κs =
+on-local-on-binds-requires t c κs =
     let pre· = c .before .before .before .before .before .before .before .before .before .before .before .before .before .before .before .before .before .before .before .before .before .before .before .before .before .before .before .before .pre in
     let args· = c .before .before .before .before .before .before .before .before .before .before .before .before .before .before .before .before .before .before .before .before .before .before .before .before .before .before .before .before .args in
     let begin-local· = c .before .before .before .before .before .before .before .before .before .before .before .before .before .before .before .begin-local in
@@ -515,15 +515,15 @@ walk-local-walk-binds-requires t c κs =
     let begun· = c .before .before .before .before .before .before .before .begun in
     (omega (arith, pre· .0, (expr-level (args· .tree .now) (args· .nest) any-expression (args· .at) ((pre· .1 .1) .read))), ((ready-on (omega arith) (omega arith) (ready-local ((args· .nest) - 1) _ ((args· .here) .depth) (pre· .1 .0) (begin-local· .ensures .begun ((args· .nest) - 1) (local-binds-there (pre· .1 .0) (pre· .1 .1) (number-at· .ensures)) _ _ _ ((pre· .1 .0) .fit)) (begun· .given .1))), ((local-binds-there (pre· .1 .0) (pre· .1 .1) (number-at· .ensures)), omega arith)))
 
-walk-local-enum-known-specs : (t : ℕ) → walk-local-lts.Need-enum-known-specs (
+on-local-enum-known-specs : (t : ℕ) → on-local-lts.Need-enum-known-specs (
   number-at-reads.Asked,
   number-at-reads.Learnt,
   analyze-below t,
   analyze.Post,
   begin-local-reads.Asked,
   begin-local-reads.Learnt,
-  walk-binds-below t,
-  walk-binds.Post,
+  on-binds-below t,
+  on-binds.Post,
   not-kept-reads.Asked,
   not-kept-reads.Learnt,
   settle-frame-reads.Asked,
@@ -532,18 +532,18 @@ walk-local-enum-known-specs : (t : ℕ) → walk-local-lts.Need-enum-known-specs
   deeper-reads.Learnt,
   finish-local-reads.Asked,
   finish-local-reads.Learnt,
-) (walk-local-at t) walk-local.Post
-walk-local-enum-known-specs t c = search needs
+) (on-local-at t) on-local.Post
+on-local-enum-known-specs t c = search needs
 
-walk-local-enum-told-2 : (t : ℕ) → walk-local-lts.Need-enum-told-2 (
+on-local-enum-told-2 : (t : ℕ) → on-local-lts.Need-enum-told-2 (
   number-at-reads.Asked,
   number-at-reads.Learnt,
   analyze-below t,
   analyze.Post,
   begin-local-reads.Asked,
   begin-local-reads.Learnt,
-  walk-binds-below t,
-  walk-binds.Post,
+  on-binds-below t,
+  on-binds.Post,
   not-kept-reads.Asked,
   not-kept-reads.Learnt,
   settle-frame-reads.Asked,
@@ -552,18 +552,18 @@ walk-local-enum-told-2 : (t : ℕ) → walk-local-lts.Need-enum-told-2 (
   deeper-reads.Learnt,
   finish-local-reads.Asked,
   finish-local-reads.Learnt,
-) (walk-local-at t) walk-local.Post
-walk-local-enum-told-2 t c = search needs
+) (on-local-at t) on-local.Post
+on-local-enum-told-2 t c = search needs
 
-walk-local-not-kept-requires : (t : ℕ) → walk-local-lts.Need-not-kept-requires (
+on-local-not-kept-requires : (t : ℕ) → on-local-lts.Need-not-kept-requires (
   number-at-reads.Asked,
   number-at-reads.Learnt,
   analyze-below t,
   analyze.Post,
   begin-local-reads.Asked,
   begin-local-reads.Learnt,
-  walk-binds-below t,
-  walk-binds.Post,
+  on-binds-below t,
+  on-binds.Post,
   not-kept-reads.Asked,
   not-kept-reads.Learnt,
   settle-frame-reads.Asked,
@@ -572,18 +572,18 @@ walk-local-not-kept-requires : (t : ℕ) → walk-local-lts.Need-not-kept-requir
   deeper-reads.Learnt,
   finish-local-reads.Asked,
   finish-local-reads.Learnt,
-) (walk-local-at t) walk-local.Post
-walk-local-not-kept-requires t c κs = search needs
+) (on-local-at t) on-local.Post
+on-local-not-kept-requires t c κs = search needs
 
-walk-local-same-length-10 : (t : ℕ) → walk-local-lts.Need-same-length-10 (
+on-local-same-length-10 : (t : ℕ) → on-local-lts.Need-same-length-10 (
   number-at-reads.Asked,
   number-at-reads.Learnt,
   analyze-below t,
   analyze.Post,
   begin-local-reads.Asked,
   begin-local-reads.Learnt,
-  walk-binds-below t,
-  walk-binds.Post,
+  on-binds-below t,
+  on-binds.Post,
   not-kept-reads.Asked,
   not-kept-reads.Learnt,
   settle-frame-reads.Asked,
@@ -592,18 +592,18 @@ walk-local-same-length-10 : (t : ℕ) → walk-local-lts.Need-same-length-10 (
   deeper-reads.Learnt,
   finish-local-reads.Asked,
   finish-local-reads.Learnt,
-) (walk-local-at t) walk-local.Post
-walk-local-same-length-10 t c = c .before .before .before .before .before .before .before .before .before .before .before .before .before .before .before .walk-binds .kept .1 .0
+) (on-local-at t) on-local.Post
+on-local-same-length-10 t c = c .before .before .before .before .before .before .before .before .before .before .before .before .before .before .before .on-binds .kept .1 .0
 
-walk-local-same-length-11 : (t : ℕ) → walk-local-lts.Need-same-length-11 (
+on-local-same-length-11 : (t : ℕ) → on-local-lts.Need-same-length-11 (
   number-at-reads.Asked,
   number-at-reads.Learnt,
   analyze-below t,
   analyze.Post,
   begin-local-reads.Asked,
   begin-local-reads.Learnt,
-  walk-binds-below t,
-  walk-binds.Post,
+  on-binds-below t,
+  on-binds.Post,
   not-kept-reads.Asked,
   not-kept-reads.Learnt,
   settle-frame-reads.Asked,
@@ -612,18 +612,18 @@ walk-local-same-length-11 : (t : ℕ) → walk-local-lts.Need-same-length-11 (
   deeper-reads.Learnt,
   finish-local-reads.Asked,
   finish-local-reads.Learnt,
-) (walk-local-at t) walk-local.Post
-walk-local-same-length-11 t c = c .before .before .before .before .before .before .before .before .before .before .before .before .before .before .before .walk-binds .kept .1 .1 .0 ∙ c .before .before .before .before .before .before .before .before .before .before .before .before .before .before .before .before .before .before .before .before .before .before .before .before .before .before .before .before .before .before .before .begin-local .kept .1 .0
+) (on-local-at t) on-local.Post
+on-local-same-length-11 t c = c .before .before .before .before .before .before .before .before .before .before .before .before .before .before .before .on-binds .kept .1 .1 .0 ∙ c .before .before .before .before .before .before .before .before .before .before .before .before .before .before .before .before .before .before .before .before .before .before .before .before .before .before .before .before .before .before .before .begin-local .kept .1 .0
 
-walk-local-same-length-12 : (t : ℕ) → walk-local-lts.Need-same-length-12 (
+on-local-same-length-12 : (t : ℕ) → on-local-lts.Need-same-length-12 (
   number-at-reads.Asked,
   number-at-reads.Learnt,
   analyze-below t,
   analyze.Post,
   begin-local-reads.Asked,
   begin-local-reads.Learnt,
-  walk-binds-below t,
-  walk-binds.Post,
+  on-binds-below t,
+  on-binds.Post,
   not-kept-reads.Asked,
   not-kept-reads.Learnt,
   settle-frame-reads.Asked,
@@ -632,18 +632,18 @@ walk-local-same-length-12 : (t : ℕ) → walk-local-lts.Need-same-length-12 (
   deeper-reads.Learnt,
   finish-local-reads.Asked,
   finish-local-reads.Learnt,
-) (walk-local-at t) walk-local.Post
-walk-local-same-length-12 t c = c .before .before .before .before .before .before .before .before .before .before .before .before .before .before .before .walk-binds .kept .1 .1 .1 .0 ∙ c .before .before .before .before .before .before .before .before .before .before .before .before .before .before .before .before .before .before .before .before .before .before .before .before .before .before .before .before .before .before .before .begin-local .kept .1 .1 .0
+) (on-local-at t) on-local.Post
+on-local-same-length-12 t c = c .before .before .before .before .before .before .before .before .before .before .before .before .before .before .before .on-binds .kept .1 .1 .1 .0 ∙ c .before .before .before .before .before .before .before .before .before .before .before .before .before .before .before .before .before .before .before .before .before .before .before .before .before .before .before .before .before .before .before .begin-local .kept .1 .1 .0
 
-walk-local-same-length-13 : (t : ℕ) → walk-local-lts.Need-same-length-13 (
+on-local-same-length-13 : (t : ℕ) → on-local-lts.Need-same-length-13 (
   number-at-reads.Asked,
   number-at-reads.Learnt,
   analyze-below t,
   analyze.Post,
   begin-local-reads.Asked,
   begin-local-reads.Learnt,
-  walk-binds-below t,
-  walk-binds.Post,
+  on-binds-below t,
+  on-binds.Post,
   not-kept-reads.Asked,
   not-kept-reads.Learnt,
   settle-frame-reads.Asked,
@@ -652,18 +652,18 @@ walk-local-same-length-13 : (t : ℕ) → walk-local-lts.Need-same-length-13 (
   deeper-reads.Learnt,
   finish-local-reads.Asked,
   finish-local-reads.Learnt,
-) (walk-local-at t) walk-local.Post
-walk-local-same-length-13 t c = c .before .before .before .before .before .before .before .before .before .before .before .before .before .before .before .walk-binds .kept .1 .1 .1 .1 .0 ∙ c .before .before .before .before .before .before .before .before .before .before .before .before .before .before .before .before .before .before .before .before .before .before .before .before .before .before .before .before .before .before .before .begin-local .kept .1 .1 .1 .0
+) (on-local-at t) on-local.Post
+on-local-same-length-13 t c = c .before .before .before .before .before .before .before .before .before .before .before .before .before .before .before .on-binds .kept .1 .1 .1 .1 .0 ∙ c .before .before .before .before .before .before .before .before .before .before .before .before .before .before .before .before .before .before .before .before .before .before .before .before .before .before .before .before .before .before .before .begin-local .kept .1 .1 .1 .0
 
-walk-local-same-length-14 : (t : ℕ) → walk-local-lts.Need-same-length-14 (
+on-local-same-length-14 : (t : ℕ) → on-local-lts.Need-same-length-14 (
   number-at-reads.Asked,
   number-at-reads.Learnt,
   analyze-below t,
   analyze.Post,
   begin-local-reads.Asked,
   begin-local-reads.Learnt,
-  walk-binds-below t,
-  walk-binds.Post,
+  on-binds-below t,
+  on-binds.Post,
   not-kept-reads.Asked,
   not-kept-reads.Learnt,
   settle-frame-reads.Asked,
@@ -672,18 +672,18 @@ walk-local-same-length-14 : (t : ℕ) → walk-local-lts.Need-same-length-14 (
   deeper-reads.Learnt,
   finish-local-reads.Asked,
   finish-local-reads.Learnt,
-) (walk-local-at t) walk-local.Post
-walk-local-same-length-14 t c = c .before .before .before .before .before .before .before .before .before .before .before .before .before .before .before .walk-binds .kept .1 .1 .1 .1 .1 .0
+) (on-local-at t) on-local.Post
+on-local-same-length-14 t c = c .before .before .before .before .before .before .before .before .before .before .before .before .before .before .before .on-binds .kept .1 .1 .1 .1 .1 .0
 
-walk-local-same-length-15 : (t : ℕ) → walk-local-lts.Need-same-length-15 (
+on-local-same-length-15 : (t : ℕ) → on-local-lts.Need-same-length-15 (
   number-at-reads.Asked,
   number-at-reads.Learnt,
   analyze-below t,
   analyze.Post,
   begin-local-reads.Asked,
   begin-local-reads.Learnt,
-  walk-binds-below t,
-  walk-binds.Post,
+  on-binds-below t,
+  on-binds.Post,
   not-kept-reads.Asked,
   not-kept-reads.Learnt,
   settle-frame-reads.Asked,
@@ -692,18 +692,18 @@ walk-local-same-length-15 : (t : ℕ) → walk-local-lts.Need-same-length-15 (
   deeper-reads.Learnt,
   finish-local-reads.Asked,
   finish-local-reads.Learnt,
-) (walk-local-at t) walk-local.Post
-walk-local-same-length-15 t c = c .before .before .before .before .before .before .before .before .before .before .before .before .before .before .before .walk-binds .kept .1 .1 .1 .1 .1 .1 .0
+) (on-local-at t) on-local.Post
+on-local-same-length-15 t c = c .before .before .before .before .before .before .before .before .before .before .before .before .before .before .before .on-binds .kept .1 .1 .1 .1 .1 .1 .0
 
-walk-local-returns-3 : (t : ℕ) → walk-local-lts.Need-returns-3 (
+on-local-returns-3 : (t : ℕ) → on-local-lts.Need-returns-3 (
   number-at-reads.Asked,
   number-at-reads.Learnt,
   analyze-below t,
   analyze.Post,
   begin-local-reads.Asked,
   begin-local-reads.Learnt,
-  walk-binds-below t,
-  walk-binds.Post,
+  on-binds-below t,
+  on-binds.Post,
   not-kept-reads.Asked,
   not-kept-reads.Learnt,
   settle-frame-reads.Asked,
@@ -712,29 +712,29 @@ walk-local-returns-3 : (t : ℕ) → walk-local-lts.Need-returns-3 (
   deeper-reads.Learnt,
   finish-local-reads.Asked,
   finish-local-reads.Learnt,
-) (walk-local-at t) walk-local.Post
+) (on-local-at t) on-local.Post
 unfolding place-of naming-of
-walk-local-returns-3 t c =
+on-local-returns-3 t c =
     let args· = c .before .before .before .before .before .before .before .before .before .before .before .before .before .before .before .before .before .before .before .before .before .before .before .before .before .before .before .before .before .before .before .before .before .before .before .before .before .before .before .before .before .before .before .before .args in
     let pre· = c .before .before .before .before .before .before .before .before .before .before .before .before .before .before .before .before .before .before .before .before .before .before .before .before .before .before .before .before .before .before .before .before .before .before .before .before .before .before .before .before .before .before .before .before .pre in
     let number-at· = c .before .before .before .before .before .before .before .before .before .before .before .before .before .before .before .before .before .before .before .before .before .before .before .before .before .before .before .before .before .before .before .before .before .before .before .before .number-at in
     let if1· = c .before .before .before .before .before .before .before .before .before .before .before .before .before .before .before .before .before .before .before .before .before .before .before .before .before .before .before .before .before .before .before .before .before .before .before .if1 in
     let begin-local· = c .before .before .before .before .before .before .before .before .before .before .before .before .before .before .before .before .before .before .before .before .before .before .before .before .before .before .before .before .before .before .before .begin-local in
     let begun· = c .before .before .before .before .before .before .before .before .before .before .before .before .before .before .before .before .before .before .before .before .before .before .before .begun in
-    let walk-binds· = c .before .before .before .before .before .before .before .before .before .before .before .before .before .before .before .walk-binds in
+    let on-binds· = c .before .before .before .before .before .before .before .before .before .before .before .before .before .before .before .on-binds in
     let enum-told2· = c .before .enum-told2 in
     let not-kept· = c .not-kept in
-    λ ν. local-binds-stopped (args· .tree .now) (args· .nest) (args· .at) (pre· .1 .1) ν (place-of (args· .here)) (number-at· .ensures) (if1· .left) (begin-local· .ensures .begun ((args· .nest) - 1) (local-binds-there (pre· .1 .0) (pre· .1 .1) (number-at· .ensures)) _ _ _ ((pre· .1 .0) .fit)) (begun· .given .1) (record { out = refl; diagnostics = begin-local· .kept .1 .0 }) (walk-binds· .ensures) (enum-told2· .given .1) (unkept (not-kept· .ensures) (enum-told2· .given .1))
+    λ ν. local-binds-stopped (args· .tree .now) (args· .nest) (args· .at) (pre· .1 .1) ν (place-of (args· .here)) (number-at· .ensures) (if1· .left) (begin-local· .ensures .begun ((args· .nest) - 1) (local-binds-there (pre· .1 .0) (pre· .1 .1) (number-at· .ensures)) _ _ _ ((pre· .1 .0) .fit)) (begun· .given .1) (record { out = refl; diagnostics = begin-local· .kept .1 .0 }) (on-binds· .ensures) (enum-told2· .given .1) (unkept (not-kept· .ensures) (enum-told2· .given .1))
 
-walk-local-settle-frame-requires : (t : ℕ) → walk-local-lts.Need-settle-frame-requires (
+on-local-settle-frame-requires : (t : ℕ) → on-local-lts.Need-settle-frame-requires (
   number-at-reads.Asked,
   number-at-reads.Learnt,
   analyze-below t,
   analyze.Post,
   begin-local-reads.Asked,
   begin-local-reads.Learnt,
-  walk-binds-below t,
-  walk-binds.Post,
+  on-binds-below t,
+  on-binds.Post,
   not-kept-reads.Asked,
   not-kept-reads.Learnt,
   settle-frame-reads.Asked,
@@ -743,27 +743,27 @@ walk-local-settle-frame-requires : (t : ℕ) → walk-local-lts.Need-settle-fram
   deeper-reads.Learnt,
   finish-local-reads.Asked,
   finish-local-reads.Learnt,
-) (walk-local-at t) walk-local.Post
+) (on-local-at t) on-local.Post
 unfolding place-of naming-of
-walk-local-settle-frame-requires t c κs =
+on-local-settle-frame-requires t c κs =
     let pre· = c .before .before .before .before .before .before .before .before .before .before .before .before .before .before .before .before .before .before .before .before .before .before .before .before .before .before .before .before .before .before .before .before .before .before .before .before .before .before .before .before .before .before .before .before .before .before .pre in
     let number-at· = c .before .before .before .before .before .before .before .before .before .before .before .before .before .before .before .before .before .before .before .before .before .before .before .before .before .before .before .before .before .before .before .before .before .before .before .before .before .before .number-at in
     let begin-local· = c .before .before .before .before .before .before .before .before .before .before .before .before .before .before .before .before .before .before .before .before .before .before .before .before .before .before .before .before .before .before .before .before .before .begin-local in
     let args· = c .before .before .before .before .before .before .before .before .before .before .before .before .before .before .before .before .before .before .before .before .before .before .before .before .before .before .before .before .before .before .before .before .before .before .before .before .before .before .before .before .before .before .before .before .before .before .args in
     let begun· = c .before .before .before .before .before .before .before .before .before .before .before .before .before .before .before .before .before .before .before .before .before .before .before .before .before .begun in
-    let walk-binds· = c .before .before .before .before .before .before .before .before .before .before .before .before .before .before .before .before .before .walk-binds in
+    let on-binds· = c .before .before .before .before .before .before .before .before .before .before .before .before .before .before .before .before .before .on-binds in
     let specs· = c .before .before .before .specs in
-    stage-settleable (local-stage (pre· .1 .0) (pre· .1 .1) (number-at· .ensures) (begin-local· .ensures .begun ((args· .nest) - 1) (local-binds-there (pre· .1 .0) (pre· .1 .1) (number-at· .ensures)) _ _ _ ((pre· .1 .0) .fit)) (begun· .given .1) (walk-binds· .ensures) (specs· .given .1))
+    stage-settleable (local-stage (pre· .1 .0) (pre· .1 .1) (number-at· .ensures) (begin-local· .ensures .begun ((args· .nest) - 1) (local-binds-there (pre· .1 .0) (pre· .1 .1) (number-at· .ensures)) _ _ _ ((pre· .1 .0) .fit)) (begun· .given .1) (on-binds· .ensures) (specs· .given .1))
 
-walk-local-sub-analyze-2 : (t : ℕ) → walk-local-lts.Need-sub-analyze-2 (
+on-local-sub-analyze-2 : (t : ℕ) → on-local-lts.Need-sub-analyze-2 (
   number-at-reads.Asked,
   number-at-reads.Learnt,
   analyze-below t,
   analyze.Post,
   begin-local-reads.Asked,
   begin-local-reads.Learnt,
-  walk-binds-below t,
-  walk-binds.Post,
+  on-binds-below t,
+  on-binds.Post,
   not-kept-reads.Asked,
   not-kept-reads.Learnt,
   settle-frame-reads.Asked,
@@ -772,21 +772,21 @@ walk-local-sub-analyze-2 : (t : ℕ) → walk-local-lts.Need-sub-analyze-2 (
   deeper-reads.Learnt,
   finish-local-reads.Asked,
   finish-local-reads.Learnt,
-) (walk-local-at t) walk-local.Post
-walk-local-sub-analyze-2 t c =
+) (on-local-at t) on-local.Post
+on-local-sub-analyze-2 t c =
     let args· = c .before .before .before .before .before .before .before .before .before .before .before .before .before .before .before .before .before .before .before .before .before .before .before .before .before .before .before .before .before .before .before .before .before .before .before .before .before .before .before .before .before .before .before .before .before .before .before .before .before .before .before .before .before .before .before .args in
     let pre· = c .before .before .before .before .before .before .before .before .before .before .before .before .before .before .before .before .before .before .before .before .before .before .before .before .before .before .before .before .before .before .before .before .before .before .before .before .before .before .before .before .before .before .before .before .before .before .before .before .before .before .before .before .before .before .before .pre in
     omega (arith, (expr-level (args· .tree .now) (args· .nest) any-expression (args· .at) ((pre· .1 .1) .read)))
 
-walk-local-deeper-requires : (t : ℕ) → walk-local-lts.Need-deeper-requires (
+on-local-deeper-requires : (t : ℕ) → on-local-lts.Need-deeper-requires (
   number-at-reads.Asked,
   number-at-reads.Learnt,
   analyze-below t,
   analyze.Post,
   begin-local-reads.Asked,
   begin-local-reads.Learnt,
-  walk-binds-below t,
-  walk-binds.Post,
+  on-binds-below t,
+  on-binds.Post,
   not-kept-reads.Asked,
   not-kept-reads.Learnt,
   settle-frame-reads.Asked,
@@ -795,20 +795,20 @@ walk-local-deeper-requires : (t : ℕ) → walk-local-lts.Need-deeper-requires (
   deeper-reads.Learnt,
   finish-local-reads.Asked,
   finish-local-reads.Learnt,
-) (walk-local-at t) walk-local.Post
-walk-local-deeper-requires t c κs =
+) (on-local-at t) on-local.Post
+on-local-deeper-requires t c κs =
     let pre· = c .before .before .before .before .before .before .before .before .before .before .before .before .before .before .before .before .before .before .before .before .before .before .before .before .before .before .before .before .before .before .before .before .before .before .before .before .before .before .before .before .before .before .before .before .before .before .before .before .before .before .before .before .before .before .before .pre in
     omega (arith, (pre· .1 .0) .shallow)
 
-walk-local-analyze-requires-2 : (t : ℕ) → walk-local-lts.Need-analyze-requires-2 (
+on-local-analyze-requires-2 : (t : ℕ) → on-local-lts.Need-analyze-requires-2 (
   number-at-reads.Asked,
   number-at-reads.Learnt,
   analyze-below t,
   analyze.Post,
   begin-local-reads.Asked,
   begin-local-reads.Learnt,
-  walk-binds-below t,
-  walk-binds.Post,
+  on-binds-below t,
+  on-binds.Post,
   not-kept-reads.Asked,
   not-kept-reads.Learnt,
   settle-frame-reads.Asked,
@@ -817,29 +817,29 @@ walk-local-analyze-requires-2 : (t : ℕ) → walk-local-lts.Need-analyze-requir
   deeper-reads.Learnt,
   finish-local-reads.Asked,
   finish-local-reads.Learnt,
-) (walk-local-at t) walk-local.Post
+) (on-local-at t) on-local.Post
 unfolding place-of naming-of
-walk-local-analyze-requires-2 t c κs =
+on-local-analyze-requires-2 t c κs =
     let pre· = c .before .before .before .before .before .before .before .before .before .before .before .before .before .before .before .before .before .before .before .before .before .before .before .before .before .before .before .before .before .before .before .before .before .before .before .before .before .before .before .before .before .before .before .before .before .before .before .before .before .before .before .before .before .before .before .before .pre in
     let args· = c .before .before .before .before .before .before .before .before .before .before .before .before .before .before .before .before .before .before .before .before .before .before .before .before .before .before .before .before .before .before .before .before .before .before .before .before .before .before .before .before .before .before .before .before .before .before .before .before .before .before .before .before .before .before .before .before .args in
     let number-at· = c .before .before .before .before .before .before .before .before .before .before .before .before .before .before .before .before .before .before .before .before .before .before .before .before .before .before .before .before .before .before .before .before .before .before .before .before .before .before .before .before .before .before .before .before .before .before .before .before .number-at in
     let begin-local· = c .before .before .before .before .before .before .before .before .before .before .before .before .before .before .before .before .before .before .before .before .before .before .before .before .before .before .before .before .before .before .before .before .before .before .before .before .before .before .before .before .before .before .before .begin-local in
     let begun· = c .before .before .before .before .before .before .before .before .before .before .before .before .before .before .before .before .before .before .before .before .before .before .before .before .before .before .before .before .before .before .before .before .before .before .before .begun in
-    let walk-binds· = c .before .before .before .before .before .before .before .before .before .before .before .before .before .before .before .before .before .before .before .before .before .before .before .before .before .before .before .walk-binds in
+    let on-binds· = c .before .before .before .before .before .before .before .before .before .before .before .before .before .before .before .before .before .before .before .before .before .before .before .before .before .before .before .on-binds in
     let specs· = c .before .before .before .before .before .before .before .before .before .before .before .before .before .specs in
     let settle-frame· = c .before .before .before .before .before .before .before .before .before .settle-frame in
     let deeper· = c .deeper in
-    (omega (arith, pre· .0, (expr-level (args· .tree .now) (args· .nest) any-expression (args· .at) ((pre· .1 .1) .read))), (stage-body (local-stage (pre· .1 .0) (pre· .1 .1) (number-at· .ensures) (begin-local· .ensures .begun ((args· .nest) - 1) (local-binds-there (pre· .1 .0) (pre· .1 .1) (number-at· .ensures)) _ _ _ ((pre· .1 .0) .fit)) (begun· .given .1) (walk-binds· .ensures) (specs· .given .1)) (settle-frame· .ensures .becomes _ _ _ _ _ (kept-fit (walk-binds· .ensures) (specs· .given .1))) _ (expr-level (args· .tree .now) (args· .nest) any-expression (args· .at) ((pre· .1 .1) .read)) (deeper· .ensures .same) (deeper· .ensures .depth), (local-stage (pre· .1 .0) (pre· .1 .1) (number-at· .ensures) (begin-local· .ensures .begun ((args· .nest) - 1) (local-binds-there (pre· .1 .0) (pre· .1 .1) (number-at· .ensures)) _ _ _ ((pre· .1 .0) .fit)) (begun· .given .1) (walk-binds· .ensures) (specs· .given .1)) .body))
+    (omega (arith, pre· .0, (expr-level (args· .tree .now) (args· .nest) any-expression (args· .at) ((pre· .1 .1) .read))), (stage-body (local-stage (pre· .1 .0) (pre· .1 .1) (number-at· .ensures) (begin-local· .ensures .begun ((args· .nest) - 1) (local-binds-there (pre· .1 .0) (pre· .1 .1) (number-at· .ensures)) _ _ _ ((pre· .1 .0) .fit)) (begun· .given .1) (on-binds· .ensures) (specs· .given .1)) (settle-frame· .ensures .becomes _ _ _ _ _ (kept-fit (on-binds· .ensures) (specs· .given .1))) _ (expr-level (args· .tree .now) (args· .nest) any-expression (args· .at) ((pre· .1 .1) .read)) (deeper· .ensures .same) (deeper· .ensures .depth), (local-stage (pre· .1 .0) (pre· .1 .1) (number-at· .ensures) (begin-local· .ensures .begun ((args· .nest) - 1) (local-binds-there (pre· .1 .0) (pre· .1 .1) (number-at· .ensures)) _ _ _ ((pre· .1 .0) .fit)) (begun· .given .1) (on-binds· .ensures) (specs· .given .1)) .body))
 
-walk-local-enum-known-w : (t : ℕ) → walk-local-lts.Need-enum-known-w (
+on-local-enum-known-w : (t : ℕ) → on-local-lts.Need-enum-known-w (
   number-at-reads.Asked,
   number-at-reads.Learnt,
   analyze-below t,
   analyze.Post,
   begin-local-reads.Asked,
   begin-local-reads.Learnt,
-  walk-binds-below t,
-  walk-binds.Post,
+  on-binds-below t,
+  on-binds.Post,
   not-kept-reads.Asked,
   not-kept-reads.Learnt,
   settle-frame-reads.Asked,
@@ -848,18 +848,18 @@ walk-local-enum-known-w : (t : ℕ) → walk-local-lts.Need-enum-known-w (
   deeper-reads.Learnt,
   finish-local-reads.Asked,
   finish-local-reads.Learnt,
-) (walk-local-at t) walk-local.Post
-walk-local-enum-known-w t c = search needs
+) (on-local-at t) on-local.Post
+on-local-enum-known-w t c = search needs
 
-walk-local-enum-told-3 : (t : ℕ) → walk-local-lts.Need-enum-told-3 (
+on-local-enum-told-3 : (t : ℕ) → on-local-lts.Need-enum-told-3 (
   number-at-reads.Asked,
   number-at-reads.Learnt,
   analyze-below t,
   analyze.Post,
   begin-local-reads.Asked,
   begin-local-reads.Learnt,
-  walk-binds-below t,
-  walk-binds.Post,
+  on-binds-below t,
+  on-binds.Post,
   not-kept-reads.Asked,
   not-kept-reads.Learnt,
   settle-frame-reads.Asked,
@@ -868,18 +868,18 @@ walk-local-enum-told-3 : (t : ℕ) → walk-local-lts.Need-enum-told-3 (
   deeper-reads.Learnt,
   finish-local-reads.Asked,
   finish-local-reads.Learnt,
-) (walk-local-at t) walk-local.Post
-walk-local-enum-told-3 t c = search needs
+) (on-local-at t) on-local.Post
+on-local-enum-told-3 t c = search needs
 
-walk-local-same-length-16 : (t : ℕ) → walk-local-lts.Need-same-length-16 (
+on-local-same-length-16 : (t : ℕ) → on-local-lts.Need-same-length-16 (
   number-at-reads.Asked,
   number-at-reads.Learnt,
   analyze-below t,
   analyze.Post,
   begin-local-reads.Asked,
   begin-local-reads.Learnt,
-  walk-binds-below t,
-  walk-binds.Post,
+  on-binds-below t,
+  on-binds.Post,
   not-kept-reads.Asked,
   not-kept-reads.Learnt,
   settle-frame-reads.Asked,
@@ -888,18 +888,18 @@ walk-local-same-length-16 : (t : ℕ) → walk-local-lts.Need-same-length-16 (
   deeper-reads.Learnt,
   finish-local-reads.Asked,
   finish-local-reads.Learnt,
-) (walk-local-at t) walk-local.Post
-walk-local-same-length-16 t c = c .before .before .before .before .before .before .before .before .before .before .before .before .before .before .analyze2 .kept .1 .0 ∙ c .before .before .before .before .before .before .before .before .before .before .before .before .before .before .before .before .before .before .before .before .before .before .before .before .before .before .before .before .before .before .before .before .before .before .before .before .before .before .before .before .before .before .walk-binds .kept .1 .0
+) (on-local-at t) on-local.Post
+on-local-same-length-16 t c = c .before .before .before .before .before .before .before .before .before .before .before .before .before .before .analyze2 .kept .1 .0 ∙ c .before .before .before .before .before .before .before .before .before .before .before .before .before .before .before .before .before .before .before .before .before .before .before .before .before .before .before .before .before .before .before .before .before .before .before .before .before .before .before .before .before .before .on-binds .kept .1 .0
 
-walk-local-same-length-17 : (t : ℕ) → walk-local-lts.Need-same-length-17 (
+on-local-same-length-17 : (t : ℕ) → on-local-lts.Need-same-length-17 (
   number-at-reads.Asked,
   number-at-reads.Learnt,
   analyze-below t,
   analyze.Post,
   begin-local-reads.Asked,
   begin-local-reads.Learnt,
-  walk-binds-below t,
-  walk-binds.Post,
+  on-binds-below t,
+  on-binds.Post,
   not-kept-reads.Asked,
   not-kept-reads.Learnt,
   settle-frame-reads.Asked,
@@ -908,18 +908,18 @@ walk-local-same-length-17 : (t : ℕ) → walk-local-lts.Need-same-length-17 (
   deeper-reads.Learnt,
   finish-local-reads.Asked,
   finish-local-reads.Learnt,
-) (walk-local-at t) walk-local.Post
-walk-local-same-length-17 t c = c .before .before .before .before .before .before .before .before .before .before .before .before .before .before .analyze2 .kept .1 .1 .0 ∙ c .before .before .before .before .before .before .before .before .before .before .before .before .before .before .before .before .before .before .before .before .before .before .before .before .before .before .before .before .before .before .before .before .before .before .before .before .before .before .before .before .before .before .walk-binds .kept .1 .1 .0 ∙ c .before .before .before .before .before .before .before .before .before .before .before .before .before .before .before .before .before .before .before .before .before .before .before .before .before .before .before .before .before .before .before .before .before .before .before .before .before .before .before .before .before .before .before .before .before .before .before .before .before .before .before .before .before .before .before .before .before .before .begin-local .kept .1 .0
+) (on-local-at t) on-local.Post
+on-local-same-length-17 t c = c .before .before .before .before .before .before .before .before .before .before .before .before .before .before .analyze2 .kept .1 .1 .0 ∙ c .before .before .before .before .before .before .before .before .before .before .before .before .before .before .before .before .before .before .before .before .before .before .before .before .before .before .before .before .before .before .before .before .before .before .before .before .before .before .before .before .before .before .on-binds .kept .1 .1 .0 ∙ c .before .before .before .before .before .before .before .before .before .before .before .before .before .before .before .before .before .before .before .before .before .before .before .before .before .before .before .before .before .before .before .before .before .before .before .before .before .before .before .before .before .before .before .before .before .before .before .before .before .before .before .before .before .before .before .before .before .before .begin-local .kept .1 .0
 
-walk-local-same-length-18 : (t : ℕ) → walk-local-lts.Need-same-length-18 (
+on-local-same-length-18 : (t : ℕ) → on-local-lts.Need-same-length-18 (
   number-at-reads.Asked,
   number-at-reads.Learnt,
   analyze-below t,
   analyze.Post,
   begin-local-reads.Asked,
   begin-local-reads.Learnt,
-  walk-binds-below t,
-  walk-binds.Post,
+  on-binds-below t,
+  on-binds.Post,
   not-kept-reads.Asked,
   not-kept-reads.Learnt,
   settle-frame-reads.Asked,
@@ -928,18 +928,18 @@ walk-local-same-length-18 : (t : ℕ) → walk-local-lts.Need-same-length-18 (
   deeper-reads.Learnt,
   finish-local-reads.Asked,
   finish-local-reads.Learnt,
-) (walk-local-at t) walk-local.Post
-walk-local-same-length-18 t c = c .before .before .before .before .before .before .before .before .before .before .before .before .before .before .analyze2 .kept .1 .1 .1 .0 ∙ c .before .before .before .before .before .before .before .before .before .before .before .before .before .before .before .before .before .before .before .before .before .before .before .before .settle-frame .kept .0 ∙ c .before .before .before .before .before .before .before .before .before .before .before .before .before .before .before .before .before .before .before .before .before .before .before .before .before .before .before .before .before .before .before .before .before .before .before .before .before .before .before .before .before .before .walk-binds .kept .1 .1 .1 .0 ∙ c .before .before .before .before .before .before .before .before .before .before .before .before .before .before .before .before .before .before .before .before .before .before .before .before .before .before .before .before .before .before .before .before .before .before .before .before .before .before .before .before .before .before .before .before .before .before .before .before .before .before .before .before .before .before .before .before .before .before .begin-local .kept .1 .1 .0
+) (on-local-at t) on-local.Post
+on-local-same-length-18 t c = c .before .before .before .before .before .before .before .before .before .before .before .before .before .before .analyze2 .kept .1 .1 .1 .0 ∙ c .before .before .before .before .before .before .before .before .before .before .before .before .before .before .before .before .before .before .before .before .before .before .before .before .settle-frame .kept .0 ∙ c .before .before .before .before .before .before .before .before .before .before .before .before .before .before .before .before .before .before .before .before .before .before .before .before .before .before .before .before .before .before .before .before .before .before .before .before .before .before .before .before .before .before .on-binds .kept .1 .1 .1 .0 ∙ c .before .before .before .before .before .before .before .before .before .before .before .before .before .before .before .before .before .before .before .before .before .before .before .before .before .before .before .before .before .before .before .before .before .before .before .before .before .before .before .before .before .before .before .before .before .before .before .before .before .before .before .before .before .before .before .before .before .before .begin-local .kept .1 .1 .0
 
-walk-local-same-length-19 : (t : ℕ) → walk-local-lts.Need-same-length-19 (
+on-local-same-length-19 : (t : ℕ) → on-local-lts.Need-same-length-19 (
   number-at-reads.Asked,
   number-at-reads.Learnt,
   analyze-below t,
   analyze.Post,
   begin-local-reads.Asked,
   begin-local-reads.Learnt,
-  walk-binds-below t,
-  walk-binds.Post,
+  on-binds-below t,
+  on-binds.Post,
   not-kept-reads.Asked,
   not-kept-reads.Learnt,
   settle-frame-reads.Asked,
@@ -948,18 +948,18 @@ walk-local-same-length-19 : (t : ℕ) → walk-local-lts.Need-same-length-19 (
   deeper-reads.Learnt,
   finish-local-reads.Asked,
   finish-local-reads.Learnt,
-) (walk-local-at t) walk-local.Post
-walk-local-same-length-19 t c = c .before .before .before .before .before .before .before .before .before .before .before .before .before .before .analyze2 .kept .1 .1 .1 .1 .0 ∙ c .before .before .before .before .before .before .before .before .before .before .before .before .before .before .before .before .before .before .before .before .before .before .before .before .before .before .before .before .before .before .before .before .before .before .before .before .before .before .before .before .before .before .walk-binds .kept .1 .1 .1 .1 .0 ∙ c .before .before .before .before .before .before .before .before .before .before .before .before .before .before .before .before .before .before .before .before .before .before .before .before .before .before .before .before .before .before .before .before .before .before .before .before .before .before .before .before .before .before .before .before .before .before .before .before .before .before .before .before .before .before .before .before .before .before .begin-local .kept .1 .1 .1 .0
+) (on-local-at t) on-local.Post
+on-local-same-length-19 t c = c .before .before .before .before .before .before .before .before .before .before .before .before .before .before .analyze2 .kept .1 .1 .1 .1 .0 ∙ c .before .before .before .before .before .before .before .before .before .before .before .before .before .before .before .before .before .before .before .before .before .before .before .before .before .before .before .before .before .before .before .before .before .before .before .before .before .before .before .before .before .before .on-binds .kept .1 .1 .1 .1 .0 ∙ c .before .before .before .before .before .before .before .before .before .before .before .before .before .before .before .before .before .before .before .before .before .before .before .before .before .before .before .before .before .before .before .before .before .before .before .before .before .before .before .before .before .before .before .before .before .before .before .before .before .before .before .before .before .before .before .before .before .before .begin-local .kept .1 .1 .1 .0
 
-walk-local-same-length-20 : (t : ℕ) → walk-local-lts.Need-same-length-20 (
+on-local-same-length-20 : (t : ℕ) → on-local-lts.Need-same-length-20 (
   number-at-reads.Asked,
   number-at-reads.Learnt,
   analyze-below t,
   analyze.Post,
   begin-local-reads.Asked,
   begin-local-reads.Learnt,
-  walk-binds-below t,
-  walk-binds.Post,
+  on-binds-below t,
+  on-binds.Post,
   not-kept-reads.Asked,
   not-kept-reads.Learnt,
   settle-frame-reads.Asked,
@@ -968,18 +968,18 @@ walk-local-same-length-20 : (t : ℕ) → walk-local-lts.Need-same-length-20 (
   deeper-reads.Learnt,
   finish-local-reads.Asked,
   finish-local-reads.Learnt,
-) (walk-local-at t) walk-local.Post
-walk-local-same-length-20 t c = c .before .before .before .before .before .before .before .before .before .before .before .before .before .before .analyze2 .kept .1 .1 .1 .1 .1 .0 ∙ c .before .before .before .before .before .before .before .before .before .before .before .before .before .before .before .before .before .before .before .before .before .before .before .before .before .before .before .before .before .before .before .before .before .before .before .before .before .before .before .before .before .before .walk-binds .kept .1 .1 .1 .1 .1 .0
+) (on-local-at t) on-local.Post
+on-local-same-length-20 t c = c .before .before .before .before .before .before .before .before .before .before .before .before .before .before .analyze2 .kept .1 .1 .1 .1 .1 .0 ∙ c .before .before .before .before .before .before .before .before .before .before .before .before .before .before .before .before .before .before .before .before .before .before .before .before .before .before .before .before .before .before .before .before .before .before .before .before .before .before .before .before .before .before .on-binds .kept .1 .1 .1 .1 .1 .0
 
-walk-local-same-length-21 : (t : ℕ) → walk-local-lts.Need-same-length-21 (
+on-local-same-length-21 : (t : ℕ) → on-local-lts.Need-same-length-21 (
   number-at-reads.Asked,
   number-at-reads.Learnt,
   analyze-below t,
   analyze.Post,
   begin-local-reads.Asked,
   begin-local-reads.Learnt,
-  walk-binds-below t,
-  walk-binds.Post,
+  on-binds-below t,
+  on-binds.Post,
   not-kept-reads.Asked,
   not-kept-reads.Learnt,
   settle-frame-reads.Asked,
@@ -988,18 +988,18 @@ walk-local-same-length-21 : (t : ℕ) → walk-local-lts.Need-same-length-21 (
   deeper-reads.Learnt,
   finish-local-reads.Asked,
   finish-local-reads.Learnt,
-) (walk-local-at t) walk-local.Post
-walk-local-same-length-21 t c = c .before .before .before .before .before .before .before .before .before .before .before .before .before .before .analyze2 .kept .1 .1 .1 .1 .1 .1 .0 ∙ c .before .before .before .before .before .before .before .before .before .before .before .before .before .before .before .before .before .before .before .before .before .before .before .before .before .before .before .before .before .before .before .before .before .before .before .before .before .before .before .before .before .before .walk-binds .kept .1 .1 .1 .1 .1 .1 .0
+) (on-local-at t) on-local.Post
+on-local-same-length-21 t c = c .before .before .before .before .before .before .before .before .before .before .before .before .before .before .analyze2 .kept .1 .1 .1 .1 .1 .1 .0 ∙ c .before .before .before .before .before .before .before .before .before .before .before .before .before .before .before .before .before .before .before .before .before .before .before .before .before .before .before .before .before .before .before .before .before .before .before .before .before .before .before .before .before .before .on-binds .kept .1 .1 .1 .1 .1 .1 .0
 
-walk-local-returns-4 : (t : ℕ) → walk-local-lts.Need-returns-4 (
+on-local-returns-4 : (t : ℕ) → on-local-lts.Need-returns-4 (
   number-at-reads.Asked,
   number-at-reads.Learnt,
   analyze-below t,
   analyze.Post,
   begin-local-reads.Asked,
   begin-local-reads.Learnt,
-  walk-binds-below t,
-  walk-binds.Post,
+  on-binds-below t,
+  on-binds.Post,
   not-kept-reads.Asked,
   not-kept-reads.Learnt,
   settle-frame-reads.Asked,
@@ -1008,32 +1008,32 @@ walk-local-returns-4 : (t : ℕ) → walk-local-lts.Need-returns-4 (
   deeper-reads.Learnt,
   finish-local-reads.Asked,
   finish-local-reads.Learnt,
-) (walk-local-at t) walk-local.Post
+) (on-local-at t) on-local.Post
 unfolding place-of naming-of
-walk-local-returns-4 t c =
+on-local-returns-4 t c =
     let args· = c .before .before .before .before .before .before .before .before .before .before .before .before .before .before .before .before .before .before .before .before .before .before .before .before .before .before .before .before .before .before .before .before .before .before .before .before .before .before .before .before .before .before .before .before .before .before .before .before .before .before .before .before .before .before .before .before .before .before .before .before .before .before .before .before .before .before .before .before .before .before .before .args in
     let pre· = c .before .before .before .before .before .before .before .before .before .before .before .before .before .before .before .before .before .before .before .before .before .before .before .before .before .before .before .before .before .before .before .before .before .before .before .before .before .before .before .before .before .before .before .before .before .before .before .before .before .before .before .before .before .before .before .before .before .before .before .before .before .before .before .before .before .before .before .before .before .before .before .pre in
     let number-at· = c .before .before .before .before .before .before .before .before .before .before .before .before .before .before .before .before .before .before .before .before .before .before .before .before .before .before .before .before .before .before .before .before .before .before .before .before .before .before .before .before .before .before .before .before .before .before .before .before .before .before .before .before .before .before .before .before .before .before .before .before .before .before .before .number-at in
     let if1· = c .before .before .before .before .before .before .before .before .before .before .before .before .before .before .before .before .before .before .before .before .before .before .before .before .before .before .before .before .before .before .before .before .before .before .before .before .before .before .before .before .before .before .before .before .before .before .before .before .before .before .before .before .before .before .before .before .before .before .before .before .before .before .if1 in
     let begin-local· = c .before .before .before .before .before .before .before .before .before .before .before .before .before .before .before .before .before .before .before .before .before .before .before .before .before .before .before .before .before .before .before .before .before .before .before .before .before .before .before .before .before .before .before .before .before .before .before .before .before .before .before .before .before .before .before .before .before .before .begin-local in
     let begun· = c .before .before .before .before .before .before .before .before .before .before .before .before .before .before .before .before .before .before .before .before .before .before .before .before .before .before .before .before .before .before .before .before .before .before .before .before .before .before .before .before .before .before .before .before .before .before .before .before .before .before .begun in
-    let walk-binds· = c .before .before .before .before .before .before .before .before .before .before .before .before .before .before .before .before .before .before .before .before .before .before .before .before .before .before .before .before .before .before .before .before .before .before .before .before .before .before .before .before .before .before .walk-binds in
+    let on-binds· = c .before .before .before .before .before .before .before .before .before .before .before .before .before .before .before .before .before .before .before .before .before .before .before .before .before .before .before .before .before .before .before .before .before .before .before .before .before .before .before .before .before .before .on-binds in
     let specs· = c .before .before .before .before .before .before .before .before .before .before .before .before .before .before .before .before .before .before .before .before .before .before .before .before .before .before .before .before .specs in
     let settle-frame· = c .before .before .before .before .before .before .before .before .before .before .before .before .before .before .before .before .before .before .before .before .before .before .before .before .settle-frame in
     let deeper· = c .before .before .before .before .before .before .before .before .before .before .before .before .before .before .before .deeper in
     let analyze2· = c .before .before .before .before .before .before .before .before .before .before .before .before .before .before .analyze2 in
     let enum-told3· = c .enum-told3 in
-    λ ν. local-body-stopped (args· .tree .now) (args· .nest) (args· .at) (pre· .1 .1) ν (place-of (args· .here)) (number-at· .ensures) (if1· .left) (begin-local· .ensures .begun ((args· .nest) - 1) (local-binds-there (pre· .1 .0) (pre· .1 .1) (number-at· .ensures)) _ _ _ ((pre· .1 .0) .fit)) (begun· .given .1) (record { out = refl; diagnostics = begin-local· .kept .1 .0 }) (walk-binds· .ensures) (specs· .given .1) (record { out = walk-binds· .kept .1 .0; diagnostics = walk-binds· .kept .1 .1 .0 }) (sym (references-counted (buffers (args· .out .now) (args· .diagnostics .now) (args· .locals .now) (args· .frames .now) (args· .captures .now) (args· .references .now)) (args· .st))) (settle-frame· .ensures .becomes _ _ _ _ _ (kept-fit (walk-binds· .ensures) (specs· .given .1))) (record { out = refl; diagnostics = refl }) (deeper· .ensures .same) (analyze2· .ensures) (enum-told3· .given .1)
+    λ ν. local-body-stopped (args· .tree .now) (args· .nest) (args· .at) (pre· .1 .1) ν (place-of (args· .here)) (number-at· .ensures) (if1· .left) (begin-local· .ensures .begun ((args· .nest) - 1) (local-binds-there (pre· .1 .0) (pre· .1 .1) (number-at· .ensures)) _ _ _ ((pre· .1 .0) .fit)) (begun· .given .1) (record { out = refl; diagnostics = begin-local· .kept .1 .0 }) (on-binds· .ensures) (specs· .given .1) (record { out = on-binds· .kept .1 .0; diagnostics = on-binds· .kept .1 .1 .0 }) (sym (references-counted (buffers (args· .out .now) (args· .diagnostics .now) (args· .locals .now) (args· .frames .now) (args· .captures .now) (args· .references .now)) (args· .st))) (settle-frame· .ensures .becomes _ _ _ _ _ (kept-fit (on-binds· .ensures) (specs· .given .1))) (record { out = refl; diagnostics = refl }) (deeper· .ensures .same) (analyze2· .ensures) (enum-told3· .given .1)
 
-walk-local-finish-local-requires : (t : ℕ) → walk-local-lts.Need-finish-local-requires (
+on-local-finish-local-requires : (t : ℕ) → on-local-lts.Need-finish-local-requires (
   number-at-reads.Asked,
   number-at-reads.Learnt,
   analyze-below t,
   analyze.Post,
   begin-local-reads.Asked,
   begin-local-reads.Learnt,
-  walk-binds-below t,
-  walk-binds.Post,
+  on-binds-below t,
+  on-binds.Post,
   not-kept-reads.Asked,
   not-kept-reads.Learnt,
   settle-frame-reads.Asked,
@@ -1042,31 +1042,31 @@ walk-local-finish-local-requires : (t : ℕ) → walk-local-lts.Need-finish-loca
   deeper-reads.Learnt,
   finish-local-reads.Asked,
   finish-local-reads.Learnt,
-) (walk-local-at t) walk-local.Post
+) (on-local-at t) on-local.Post
 unfolding place-of naming-of
-walk-local-finish-local-requires t c κs =
+on-local-finish-local-requires t c κs =
     let pre· = c .before .before .before .before .before .before .before .before .before .before .before .before .before .before .before .before .before .before .before .before .before .before .before .before .before .before .before .before .before .before .before .before .before .before .before .before .before .before .before .before .before .before .before .before .before .before .before .before .before .before .before .before .before .before .before .before .before .before .before .before .before .before .before .before .before .before .before .before .before .before .before .before .before .before .before .before .before .before .pre in
     let number-at· = c .before .before .before .before .before .before .before .before .before .before .before .before .before .before .before .before .before .before .before .before .before .before .before .before .before .before .before .before .before .before .before .before .before .before .before .before .before .before .before .before .before .before .before .before .before .before .before .before .before .before .before .before .before .before .before .before .before .before .before .before .before .before .before .before .before .before .before .before .before .before .number-at in
     let begin-local· = c .before .before .before .before .before .before .before .before .before .before .before .before .before .before .before .before .before .before .before .before .before .before .before .before .before .before .before .before .before .before .before .before .before .before .before .before .before .before .before .before .before .before .before .before .before .before .before .before .before .before .before .before .before .before .before .before .before .before .before .before .before .before .before .before .before .begin-local in
     let args· = c .before .before .before .before .before .before .before .before .before .before .before .before .before .before .before .before .before .before .before .before .before .before .before .before .before .before .before .before .before .before .before .before .before .before .before .before .before .before .before .before .before .before .before .before .before .before .before .before .before .before .before .before .before .before .before .before .before .before .before .before .before .before .before .before .before .before .before .before .before .before .before .before .before .before .before .before .before .before .args in
     let begun· = c .before .before .before .before .before .before .before .before .before .before .before .before .before .before .before .before .before .before .before .before .before .before .before .before .before .before .before .before .before .before .before .before .before .before .before .before .before .before .before .before .before .before .before .before .before .before .before .before .before .before .before .before .before .before .before .before .before .begun in
-    let walk-binds· = c .before .before .before .before .before .before .before .before .before .before .before .before .before .before .before .before .before .before .before .before .before .before .before .before .before .before .before .before .before .before .before .before .before .before .before .before .before .before .before .before .before .before .before .before .before .before .before .before .before .walk-binds in
+    let on-binds· = c .before .before .before .before .before .before .before .before .before .before .before .before .before .before .before .before .before .before .before .before .before .before .before .before .before .before .before .before .before .before .before .before .before .before .before .before .before .before .before .before .before .before .before .before .before .before .before .before .before .on-binds in
     let specs· = c .before .before .before .before .before .before .before .before .before .before .before .before .before .before .before .before .before .before .before .before .before .before .before .before .before .before .before .before .before .before .before .before .before .before .before .specs in
     let settle-frame· = c .before .before .before .before .before .before .before .before .before .before .before .before .before .before .before .before .before .before .before .before .before .before .before .before .before .before .before .before .before .before .before .settle-frame in
     let deeper· = c .before .before .before .before .before .before .before .before .before .before .before .before .before .before .before .before .before .before .before .before .before .before .deeper in
     let analyze2· = c .before .before .before .before .before .before .before .before .before .before .before .before .before .before .before .before .before .before .before .before .before .analyze2 in
     let w· = c .before .before .before .before .before .before .before .w in
-    stage-ends (local-stage (pre· .1 .0) (pre· .1 .1) (number-at· .ensures) (begin-local· .ensures .begun ((args· .nest) - 1) (local-binds-there (pre· .1 .0) (pre· .1 .1) (number-at· .ensures)) _ _ _ ((pre· .1 .0) .fit)) (begun· .given .1) (walk-binds· .ensures) (specs· .given .1)) (settle-frame· .ensures .becomes _ _ _ _ _ (kept-fit (walk-binds· .ensures) (specs· .given .1))) _ (expr-level (args· .tree .now) (args· .nest) any-expression (args· .at) ((pre· .1 .1) .read)) (deeper· .ensures .same) (deeper· .ensures .depth) unnamed (analyze2· .ensures) (w· .given .1)
+    stage-ends (local-stage (pre· .1 .0) (pre· .1 .1) (number-at· .ensures) (begin-local· .ensures .begun ((args· .nest) - 1) (local-binds-there (pre· .1 .0) (pre· .1 .1) (number-at· .ensures)) _ _ _ ((pre· .1 .0) .fit)) (begun· .given .1) (on-binds· .ensures) (specs· .given .1)) (settle-frame· .ensures .becomes _ _ _ _ _ (kept-fit (on-binds· .ensures) (specs· .given .1))) _ (expr-level (args· .tree .now) (args· .nest) any-expression (args· .at) ((pre· .1 .1) .read)) (deeper· .ensures .same) (deeper· .ensures .depth) unnamed (analyze2· .ensures) (w· .given .1)
 
-walk-local-same-length-22 : (t : ℕ) → walk-local-lts.Need-same-length-22 (
+on-local-same-length-22 : (t : ℕ) → on-local-lts.Need-same-length-22 (
   number-at-reads.Asked,
   number-at-reads.Learnt,
   analyze-below t,
   analyze.Post,
   begin-local-reads.Asked,
   begin-local-reads.Learnt,
-  walk-binds-below t,
-  walk-binds.Post,
+  on-binds-below t,
+  on-binds.Post,
   not-kept-reads.Asked,
   not-kept-reads.Learnt,
   settle-frame-reads.Asked,
@@ -1075,18 +1075,18 @@ walk-local-same-length-22 : (t : ℕ) → walk-local-lts.Need-same-length-22 (
   deeper-reads.Learnt,
   finish-local-reads.Asked,
   finish-local-reads.Learnt,
-) (walk-local-at t) walk-local.Post
-walk-local-same-length-22 t c = c .before .before .before .before .before .before .before .before .finish-local .kept .0 ∙ c .before .before .before .before .before .before .before .before .before .before .before .before .before .before .before .before .before .before .before .before .before .before .before .before .before .before .before .before .before .before .analyze2 .kept .1 .0 ∙ c .before .before .before .before .before .before .before .before .before .before .before .before .before .before .before .before .before .before .before .before .before .before .before .before .before .before .before .before .before .before .before .before .before .before .before .before .before .before .before .before .before .before .before .before .before .before .before .before .before .before .before .before .before .before .before .before .before .before .walk-binds .kept .1 .0
+) (on-local-at t) on-local.Post
+on-local-same-length-22 t c = c .before .before .before .before .before .before .before .before .finish-local .kept .0 ∙ c .before .before .before .before .before .before .before .before .before .before .before .before .before .before .before .before .before .before .before .before .before .before .before .before .before .before .before .before .before .before .analyze2 .kept .1 .0 ∙ c .before .before .before .before .before .before .before .before .before .before .before .before .before .before .before .before .before .before .before .before .before .before .before .before .before .before .before .before .before .before .before .before .before .before .before .before .before .before .before .before .before .before .before .before .before .before .before .before .before .before .before .before .before .before .before .before .before .before .on-binds .kept .1 .0
 
-walk-local-same-length-23 : (t : ℕ) → walk-local-lts.Need-same-length-23 (
+on-local-same-length-23 : (t : ℕ) → on-local-lts.Need-same-length-23 (
   number-at-reads.Asked,
   number-at-reads.Learnt,
   analyze-below t,
   analyze.Post,
   begin-local-reads.Asked,
   begin-local-reads.Learnt,
-  walk-binds-below t,
-  walk-binds.Post,
+  on-binds-below t,
+  on-binds.Post,
   not-kept-reads.Asked,
   not-kept-reads.Learnt,
   settle-frame-reads.Asked,
@@ -1095,18 +1095,18 @@ walk-local-same-length-23 : (t : ℕ) → walk-local-lts.Need-same-length-23 (
   deeper-reads.Learnt,
   finish-local-reads.Asked,
   finish-local-reads.Learnt,
-) (walk-local-at t) walk-local.Post
-walk-local-same-length-23 t c = c .before .before .before .before .before .before .before .before .finish-local .kept .1 .0 ∙ c .before .before .before .before .before .before .before .before .before .before .before .before .before .before .before .before .before .before .before .before .before .before .before .before .before .before .before .before .before .before .analyze2 .kept .1 .1 .0 ∙ c .before .before .before .before .before .before .before .before .before .before .before .before .before .before .before .before .before .before .before .before .before .before .before .before .before .before .before .before .before .before .before .before .before .before .before .before .before .before .before .before .before .before .before .before .before .before .before .before .before .before .before .before .before .before .before .before .before .before .walk-binds .kept .1 .1 .0 ∙ c .before .before .before .before .before .before .before .before .before .before .before .before .before .before .before .before .before .before .before .before .before .before .before .before .before .before .before .before .before .before .before .before .before .before .before .before .before .before .before .before .before .before .before .before .before .before .before .before .before .before .before .before .before .before .before .before .before .before .before .before .before .before .before .before .before .before .before .before .before .before .before .before .before .before .begin-local .kept .1 .0
+) (on-local-at t) on-local.Post
+on-local-same-length-23 t c = c .before .before .before .before .before .before .before .before .finish-local .kept .1 .0 ∙ c .before .before .before .before .before .before .before .before .before .before .before .before .before .before .before .before .before .before .before .before .before .before .before .before .before .before .before .before .before .before .analyze2 .kept .1 .1 .0 ∙ c .before .before .before .before .before .before .before .before .before .before .before .before .before .before .before .before .before .before .before .before .before .before .before .before .before .before .before .before .before .before .before .before .before .before .before .before .before .before .before .before .before .before .before .before .before .before .before .before .before .before .before .before .before .before .before .before .before .before .on-binds .kept .1 .1 .0 ∙ c .before .before .before .before .before .before .before .before .before .before .before .before .before .before .before .before .before .before .before .before .before .before .before .before .before .before .before .before .before .before .before .before .before .before .before .before .before .before .before .before .before .before .before .before .before .before .before .before .before .before .before .before .before .before .before .before .before .before .before .before .before .before .before .before .before .before .before .before .before .before .before .before .before .before .begin-local .kept .1 .0
 
-walk-local-same-length-24 : (t : ℕ) → walk-local-lts.Need-same-length-24 (
+on-local-same-length-24 : (t : ℕ) → on-local-lts.Need-same-length-24 (
   number-at-reads.Asked,
   number-at-reads.Learnt,
   analyze-below t,
   analyze.Post,
   begin-local-reads.Asked,
   begin-local-reads.Learnt,
-  walk-binds-below t,
-  walk-binds.Post,
+  on-binds-below t,
+  on-binds.Post,
   not-kept-reads.Asked,
   not-kept-reads.Learnt,
   settle-frame-reads.Asked,
@@ -1115,18 +1115,18 @@ walk-local-same-length-24 : (t : ℕ) → walk-local-lts.Need-same-length-24 (
   deeper-reads.Learnt,
   finish-local-reads.Asked,
   finish-local-reads.Learnt,
-) (walk-local-at t) walk-local.Post
-walk-local-same-length-24 t c = c .before .before .before .before .before .before .before .before .finish-local .kept .1 .1 .0 ∙ c .before .before .before .before .before .before .before .before .before .before .before .before .before .before .before .before .before .before .before .before .before .before .before .before .before .before .before .before .before .before .analyze2 .kept .1 .1 .1 .0 ∙ c .before .before .before .before .before .before .before .before .before .before .before .before .before .before .before .before .before .before .before .before .before .before .before .before .before .before .before .before .before .before .before .before .before .before .before .before .before .before .before .before .settle-frame .kept .0 ∙ c .before .before .before .before .before .before .before .before .before .before .before .before .before .before .before .before .before .before .before .before .before .before .before .before .before .before .before .before .before .before .before .before .before .before .before .before .before .before .before .before .before .before .before .before .before .before .before .before .before .before .before .before .before .before .before .before .before .before .walk-binds .kept .1 .1 .1 .0 ∙ c .before .before .before .before .before .before .before .before .before .before .before .before .before .before .before .before .before .before .before .before .before .before .before .before .before .before .before .before .before .before .before .before .before .before .before .before .before .before .before .before .before .before .before .before .before .before .before .before .before .before .before .before .before .before .before .before .before .before .before .before .before .before .before .before .before .before .before .before .before .before .before .before .before .before .begin-local .kept .1 .1 .0
+) (on-local-at t) on-local.Post
+on-local-same-length-24 t c = c .before .before .before .before .before .before .before .before .finish-local .kept .1 .1 .0 ∙ c .before .before .before .before .before .before .before .before .before .before .before .before .before .before .before .before .before .before .before .before .before .before .before .before .before .before .before .before .before .before .analyze2 .kept .1 .1 .1 .0 ∙ c .before .before .before .before .before .before .before .before .before .before .before .before .before .before .before .before .before .before .before .before .before .before .before .before .before .before .before .before .before .before .before .before .before .before .before .before .before .before .before .before .settle-frame .kept .0 ∙ c .before .before .before .before .before .before .before .before .before .before .before .before .before .before .before .before .before .before .before .before .before .before .before .before .before .before .before .before .before .before .before .before .before .before .before .before .before .before .before .before .before .before .before .before .before .before .before .before .before .before .before .before .before .before .before .before .before .before .on-binds .kept .1 .1 .1 .0 ∙ c .before .before .before .before .before .before .before .before .before .before .before .before .before .before .before .before .before .before .before .before .before .before .before .before .before .before .before .before .before .before .before .before .before .before .before .before .before .before .before .before .before .before .before .before .before .before .before .before .before .before .before .before .before .before .before .before .before .before .before .before .before .before .before .before .before .before .before .before .before .before .before .before .before .before .begin-local .kept .1 .1 .0
 
-walk-local-same-length-25 : (t : ℕ) → walk-local-lts.Need-same-length-25 (
+on-local-same-length-25 : (t : ℕ) → on-local-lts.Need-same-length-25 (
   number-at-reads.Asked,
   number-at-reads.Learnt,
   analyze-below t,
   analyze.Post,
   begin-local-reads.Asked,
   begin-local-reads.Learnt,
-  walk-binds-below t,
-  walk-binds.Post,
+  on-binds-below t,
+  on-binds.Post,
   not-kept-reads.Asked,
   not-kept-reads.Learnt,
   settle-frame-reads.Asked,
@@ -1135,18 +1135,18 @@ walk-local-same-length-25 : (t : ℕ) → walk-local-lts.Need-same-length-25 (
   deeper-reads.Learnt,
   finish-local-reads.Asked,
   finish-local-reads.Learnt,
-) (walk-local-at t) walk-local.Post
-walk-local-same-length-25 t c = c .before .before .before .before .before .before .before .before .before .before .before .before .before .before .before .before .before .before .before .before .before .before .before .before .before .before .before .before .before .before .analyze2 .kept .1 .1 .1 .1 .0 ∙ c .before .before .before .before .before .before .before .before .before .before .before .before .before .before .before .before .before .before .before .before .before .before .before .before .before .before .before .before .before .before .before .before .before .before .before .before .before .before .before .before .before .before .before .before .before .before .before .before .before .before .before .before .before .before .before .before .before .before .walk-binds .kept .1 .1 .1 .1 .0 ∙ c .before .before .before .before .before .before .before .before .before .before .before .before .before .before .before .before .before .before .before .before .before .before .before .before .before .before .before .before .before .before .before .before .before .before .before .before .before .before .before .before .before .before .before .before .before .before .before .before .before .before .before .before .before .before .before .before .before .before .before .before .before .before .before .before .before .before .before .before .before .before .before .before .before .before .begin-local .kept .1 .1 .1 .0
+) (on-local-at t) on-local.Post
+on-local-same-length-25 t c = c .before .before .before .before .before .before .before .before .before .before .before .before .before .before .before .before .before .before .before .before .before .before .before .before .before .before .before .before .before .before .analyze2 .kept .1 .1 .1 .1 .0 ∙ c .before .before .before .before .before .before .before .before .before .before .before .before .before .before .before .before .before .before .before .before .before .before .before .before .before .before .before .before .before .before .before .before .before .before .before .before .before .before .before .before .before .before .before .before .before .before .before .before .before .before .before .before .before .before .before .before .before .before .on-binds .kept .1 .1 .1 .1 .0 ∙ c .before .before .before .before .before .before .before .before .before .before .before .before .before .before .before .before .before .before .before .before .before .before .before .before .before .before .before .before .before .before .before .before .before .before .before .before .before .before .before .before .before .before .before .before .before .before .before .before .before .before .before .before .before .before .before .before .before .before .before .before .before .before .before .before .before .before .before .before .before .before .before .before .before .before .begin-local .kept .1 .1 .1 .0
 
-walk-local-same-length-26 : (t : ℕ) → walk-local-lts.Need-same-length-26 (
+on-local-same-length-26 : (t : ℕ) → on-local-lts.Need-same-length-26 (
   number-at-reads.Asked,
   number-at-reads.Learnt,
   analyze-below t,
   analyze.Post,
   begin-local-reads.Asked,
   begin-local-reads.Learnt,
-  walk-binds-below t,
-  walk-binds.Post,
+  on-binds-below t,
+  on-binds.Post,
   not-kept-reads.Asked,
   not-kept-reads.Learnt,
   settle-frame-reads.Asked,
@@ -1155,18 +1155,18 @@ walk-local-same-length-26 : (t : ℕ) → walk-local-lts.Need-same-length-26 (
   deeper-reads.Learnt,
   finish-local-reads.Asked,
   finish-local-reads.Learnt,
-) (walk-local-at t) walk-local.Post
-walk-local-same-length-26 t c = c .before .before .before .before .before .before .before .before .finish-local .kept .1 .1 .1 .1 .0 ∙ c .before .before .before .before .before .before .before .before .before .before .before .before .before .before .before .before .before .before .before .before .before .before .before .before .before .before .before .before .before .before .analyze2 .kept .1 .1 .1 .1 .1 .0 ∙ c .before .before .before .before .before .before .before .before .before .before .before .before .before .before .before .before .before .before .before .before .before .before .before .before .before .before .before .before .before .before .before .before .before .before .before .before .before .before .before .before .before .before .before .before .before .before .before .before .before .before .before .before .before .before .before .before .before .before .walk-binds .kept .1 .1 .1 .1 .1 .0
+) (on-local-at t) on-local.Post
+on-local-same-length-26 t c = c .before .before .before .before .before .before .before .before .finish-local .kept .1 .1 .1 .1 .0 ∙ c .before .before .before .before .before .before .before .before .before .before .before .before .before .before .before .before .before .before .before .before .before .before .before .before .before .before .before .before .before .before .analyze2 .kept .1 .1 .1 .1 .1 .0 ∙ c .before .before .before .before .before .before .before .before .before .before .before .before .before .before .before .before .before .before .before .before .before .before .before .before .before .before .before .before .before .before .before .before .before .before .before .before .before .before .before .before .before .before .before .before .before .before .before .before .before .before .before .before .before .before .before .before .before .before .on-binds .kept .1 .1 .1 .1 .1 .0
 
-walk-local-same-length-27 : (t : ℕ) → walk-local-lts.Need-same-length-27 (
+on-local-same-length-27 : (t : ℕ) → on-local-lts.Need-same-length-27 (
   number-at-reads.Asked,
   number-at-reads.Learnt,
   analyze-below t,
   analyze.Post,
   begin-local-reads.Asked,
   begin-local-reads.Learnt,
-  walk-binds-below t,
-  walk-binds.Post,
+  on-binds-below t,
+  on-binds.Post,
   not-kept-reads.Asked,
   not-kept-reads.Learnt,
   settle-frame-reads.Asked,
@@ -1175,18 +1175,18 @@ walk-local-same-length-27 : (t : ℕ) → walk-local-lts.Need-same-length-27 (
   deeper-reads.Learnt,
   finish-local-reads.Asked,
   finish-local-reads.Learnt,
-) (walk-local-at t) walk-local.Post
-walk-local-same-length-27 t c = c .before .before .before .before .before .before .before .before .before .before .before .before .before .before .before .before .before .before .before .before .before .before .before .before .before .before .before .before .before .before .analyze2 .kept .1 .1 .1 .1 .1 .1 .0 ∙ c .before .before .before .before .before .before .before .before .before .before .before .before .before .before .before .before .before .before .before .before .before .before .before .before .before .before .before .before .before .before .before .before .before .before .before .before .before .before .before .before .before .before .before .before .before .before .before .before .before .before .before .before .before .before .before .before .before .before .walk-binds .kept .1 .1 .1 .1 .1 .1 .0
+) (on-local-at t) on-local.Post
+on-local-same-length-27 t c = c .before .before .before .before .before .before .before .before .before .before .before .before .before .before .before .before .before .before .before .before .before .before .before .before .before .before .before .before .before .before .analyze2 .kept .1 .1 .1 .1 .1 .1 .0 ∙ c .before .before .before .before .before .before .before .before .before .before .before .before .before .before .before .before .before .before .before .before .before .before .before .before .before .before .before .before .before .before .before .before .before .before .before .before .before .before .before .before .before .before .before .before .before .before .before .before .before .before .before .before .before .before .before .before .before .before .on-binds .kept .1 .1 .1 .1 .1 .1 .0
 
-walk-local-returns-5 : (t : ℕ) → walk-local-lts.Need-returns-5 (
+on-local-returns-5 : (t : ℕ) → on-local-lts.Need-returns-5 (
   number-at-reads.Asked,
   number-at-reads.Learnt,
   analyze-below t,
   analyze.Post,
   begin-local-reads.Asked,
   begin-local-reads.Learnt,
-  walk-binds-below t,
-  walk-binds.Post,
+  on-binds-below t,
+  on-binds.Post,
   not-kept-reads.Asked,
   not-kept-reads.Learnt,
   settle-frame-reads.Asked,
@@ -1195,33 +1195,33 @@ walk-local-returns-5 : (t : ℕ) → walk-local-lts.Need-returns-5 (
   deeper-reads.Learnt,
   finish-local-reads.Asked,
   finish-local-reads.Learnt,
-) (walk-local-at t) walk-local.Post
+) (on-local-at t) on-local.Post
 unfolding place-of naming-of
-walk-local-returns-5 t c =
+on-local-returns-5 t c =
     let args· = c .before .before .before .before .before .before .before .before .before .before .before .before .before .before .before .before .before .before .before .before .before .before .before .before .before .before .before .before .before .before .before .before .before .before .before .before .before .before .before .before .before .before .before .before .before .before .before .before .before .before .before .before .before .before .before .before .before .before .before .before .before .before .before .before .before .before .before .before .before .before .before .before .before .before .before .before .before .before .before .before .before .before .before .before .before .before .before .args in
     let pre· = c .before .before .before .before .before .before .before .before .before .before .before .before .before .before .before .before .before .before .before .before .before .before .before .before .before .before .before .before .before .before .before .before .before .before .before .before .before .before .before .before .before .before .before .before .before .before .before .before .before .before .before .before .before .before .before .before .before .before .before .before .before .before .before .before .before .before .before .before .before .before .before .before .before .before .before .before .before .before .before .before .before .before .before .before .before .before .before .pre in
     let number-at· = c .before .before .before .before .before .before .before .before .before .before .before .before .before .before .before .before .before .before .before .before .before .before .before .before .before .before .before .before .before .before .before .before .before .before .before .before .before .before .before .before .before .before .before .before .before .before .before .before .before .before .before .before .before .before .before .before .before .before .before .before .before .before .before .before .before .before .before .before .before .before .before .before .before .before .before .before .before .before .before .number-at in
     let if1· = c .before .before .before .before .before .before .before .before .before .before .before .before .before .before .before .before .before .before .before .before .before .before .before .before .before .before .before .before .before .before .before .before .before .before .before .before .before .before .before .before .before .before .before .before .before .before .before .before .before .before .before .before .before .before .before .before .before .before .before .before .before .before .before .before .before .before .before .before .before .before .before .before .before .before .before .before .before .before .if1 in
     let begin-local· = c .before .before .before .before .before .before .before .before .before .before .before .before .before .before .before .before .before .before .before .before .before .before .before .before .before .before .before .before .before .before .before .before .before .before .before .before .before .before .before .before .before .before .before .before .before .before .before .before .before .before .before .before .before .before .before .before .before .before .before .before .before .before .before .before .before .before .before .before .before .before .before .before .before .before .begin-local in
     let begun· = c .before .before .before .before .before .before .before .before .before .before .before .before .before .before .before .before .before .before .before .before .before .before .before .before .before .before .before .before .before .before .before .before .before .before .before .before .before .before .before .before .before .before .before .before .before .before .before .before .before .before .before .before .before .before .before .before .before .before .before .before .before .before .before .before .before .before .begun in
-    let walk-binds· = c .before .before .before .before .before .before .before .before .before .before .before .before .before .before .before .before .before .before .before .before .before .before .before .before .before .before .before .before .before .before .before .before .before .before .before .before .before .before .before .before .before .before .before .before .before .before .before .before .before .before .before .before .before .before .before .before .before .before .walk-binds in
+    let on-binds· = c .before .before .before .before .before .before .before .before .before .before .before .before .before .before .before .before .before .before .before .before .before .before .before .before .before .before .before .before .before .before .before .before .before .before .before .before .before .before .before .before .before .before .before .before .before .before .before .before .before .before .before .before .before .before .before .before .before .before .on-binds in
     let specs· = c .before .before .before .before .before .before .before .before .before .before .before .before .before .before .before .before .before .before .before .before .before .before .before .before .before .before .before .before .before .before .before .before .before .before .before .before .before .before .before .before .before .before .before .before .specs in
     let settle-frame· = c .before .before .before .before .before .before .before .before .before .before .before .before .before .before .before .before .before .before .before .before .before .before .before .before .before .before .before .before .before .before .before .before .before .before .before .before .before .before .before .before .settle-frame in
     let deeper· = c .before .before .before .before .before .before .before .before .before .before .before .before .before .before .before .before .before .before .before .before .before .before .before .before .before .before .before .before .before .before .before .deeper in
     let analyze2· = c .before .before .before .before .before .before .before .before .before .before .before .before .before .before .before .before .before .before .before .before .before .before .before .before .before .before .before .before .before .before .analyze2 in
     let w· = c .before .before .before .before .before .before .before .before .before .before .before .before .before .before .before .before .w in
     let finish-local· = c .before .before .before .before .before .before .before .before .finish-local in
-    λ ν. local-ended (args· .tree .now) (args· .nest) (args· .at) (pre· .1 .1) ν (place-of (args· .here)) (number-at· .ensures) (if1· .left) (begin-local· .ensures .begun ((args· .nest) - 1) (local-binds-there (pre· .1 .0) (pre· .1 .1) (number-at· .ensures)) _ _ _ ((pre· .1 .0) .fit)) (begun· .given .1) (record { out = refl; diagnostics = begin-local· .kept .1 .0 }) (walk-binds· .ensures) (specs· .given .1) (record { out = walk-binds· .kept .1 .0; diagnostics = walk-binds· .kept .1 .1 .0 }) (sym (references-counted (buffers (args· .out .now) (args· .diagnostics .now) (args· .locals .now) (args· .frames .now) (args· .captures .now) (args· .references .now)) (args· .st))) (settle-frame· .ensures .becomes _ _ _ _ _ (kept-fit (walk-binds· .ensures) (specs· .given .1))) (record { out = refl; diagnostics = refl }) (deeper· .ensures .same) (analyze2· .ensures) (w· .given .1) (record { out = analyze2· .kept .1 .0; diagnostics = analyze2· .kept .1 .1 .0 }) (finish-local· .ensures)
+    λ ν. local-ended (args· .tree .now) (args· .nest) (args· .at) (pre· .1 .1) ν (place-of (args· .here)) (number-at· .ensures) (if1· .left) (begin-local· .ensures .begun ((args· .nest) - 1) (local-binds-there (pre· .1 .0) (pre· .1 .1) (number-at· .ensures)) _ _ _ ((pre· .1 .0) .fit)) (begun· .given .1) (record { out = refl; diagnostics = begin-local· .kept .1 .0 }) (on-binds· .ensures) (specs· .given .1) (record { out = on-binds· .kept .1 .0; diagnostics = on-binds· .kept .1 .1 .0 }) (sym (references-counted (buffers (args· .out .now) (args· .diagnostics .now) (args· .locals .now) (args· .frames .now) (args· .captures .now) (args· .references .now)) (args· .st))) (settle-frame· .ensures .becomes _ _ _ _ _ (kept-fit (on-binds· .ensures) (specs· .given .1))) (record { out = refl; diagnostics = refl }) (deeper· .ensures .same) (analyze2· .ensures) (w· .given .1) (record { out = analyze2· .kept .1 .0; diagnostics = analyze2· .kept .1 .1 .0 }) (finish-local· .ensures)
 
-pub walk-local-met : {M : Type 1} (t : ℕ) → walk-local-lts.Closed (
+pub on-local-met : {M : Type 1} (t : ℕ) → on-local-lts.Closed (
   number-at-reads.Asked,
   number-at-reads.Learnt,
   analyze-below t,
   analyze.Post,
   begin-local-reads.Asked,
   begin-local-reads.Learnt,
-  walk-binds-below t,
-  walk-binds.Post,
+  on-binds-below t,
+  on-binds.Post,
   not-kept-reads.Asked,
   not-kept-reads.Learnt,
   settle-frame-reads.Asked,
@@ -1230,16 +1230,16 @@ pub walk-local-met : {M : Type 1} (t : ℕ) → walk-local-lts.Closed (
   deeper-reads.Learnt,
   finish-local-reads.Asked,
   finish-local-reads.Learnt,
-) (walk-local-at t) walk-local.Post M
-walk-local-met t = walk-local-lts.spec (
+) (on-local-at t) on-local.Post M
+on-local-met t = on-local-lts.spec (
   number-at-reads.Asked,
   number-at-reads.Learnt,
   analyze-below t,
   analyze.Post,
   begin-local-reads.Asked,
   begin-local-reads.Learnt,
-  walk-binds-below t,
-  walk-binds.Post,
+  on-binds-below t,
+  on-binds.Post,
   not-kept-reads.Asked,
   not-kept-reads.Learnt,
   settle-frame-reads.Asked,
@@ -1249,58 +1249,58 @@ walk-local-met t = walk-local-lts.spec (
   finish-local-reads.Asked,
   finish-local-reads.Learnt,
 )
-    (walk-local-at t)
-    walk-local.Post
-    (walk-local-add-number-at t)
-    (walk-local-number-at-requires t)
-    (walk-local-add-analyze t)
-    (walk-local-sub-analyze t)
-    (walk-local-analyze-requires t)
-    (walk-local-same-length t)
-    (walk-local-same-length-2 t)
-    (walk-local-same-length-3 t)
-    (walk-local-same-length-4 t)
-    (walk-local-same-length-5 t)
-    (walk-local-same-length-6 t)
-    (walk-local-returns t)
-    (walk-local-begin-local-requires t)
-    (walk-local-enum-known-begun t)
-    (walk-local-enum-told t)
-    (walk-local-same-length-7 t)
-    (walk-local-same-length-8 t)
-    (walk-local-same-length-9 t)
-    (walk-local-returns-2 t)
-    (walk-local-add-walk-binds t)
-    (walk-local-sub-walk-binds t)
-    (walk-local-walk-binds-requires t)
-    (walk-local-enum-known-specs t)
-    (walk-local-enum-told-2 t)
-    (walk-local-not-kept-requires t)
-    (walk-local-same-length-10 t)
-    (walk-local-same-length-11 t)
-    (walk-local-same-length-12 t)
-    (walk-local-same-length-13 t)
-    (walk-local-same-length-14 t)
-    (walk-local-same-length-15 t)
-    (walk-local-returns-3 t)
-    (walk-local-settle-frame-requires t)
-    (walk-local-sub-analyze-2 t)
-    (walk-local-deeper-requires t)
-    (walk-local-analyze-requires-2 t)
-    (walk-local-enum-known-w t)
-    (walk-local-enum-told-3 t)
-    (walk-local-same-length-16 t)
-    (walk-local-same-length-17 t)
-    (walk-local-same-length-18 t)
-    (walk-local-same-length-19 t)
-    (walk-local-same-length-20 t)
-    (walk-local-same-length-21 t)
-    (walk-local-returns-4 t)
-    (walk-local-finish-local-requires t)
-    (walk-local-same-length-22 t)
-    (walk-local-same-length-23 t)
-    (walk-local-same-length-24 t)
-    (walk-local-same-length-25 t)
-    (walk-local-same-length-26 t)
-    (walk-local-same-length-27 t)
-    (walk-local-returns-5 t)
+    (on-local-at t)
+    on-local.Post
+    (on-local-add-number-at t)
+    (on-local-number-at-requires t)
+    (on-local-add-analyze t)
+    (on-local-sub-analyze t)
+    (on-local-analyze-requires t)
+    (on-local-same-length t)
+    (on-local-same-length-2 t)
+    (on-local-same-length-3 t)
+    (on-local-same-length-4 t)
+    (on-local-same-length-5 t)
+    (on-local-same-length-6 t)
+    (on-local-returns t)
+    (on-local-begin-local-requires t)
+    (on-local-enum-known-begun t)
+    (on-local-enum-told t)
+    (on-local-same-length-7 t)
+    (on-local-same-length-8 t)
+    (on-local-same-length-9 t)
+    (on-local-returns-2 t)
+    (on-local-add-on-binds t)
+    (on-local-sub-on-binds t)
+    (on-local-on-binds-requires t)
+    (on-local-enum-known-specs t)
+    (on-local-enum-told-2 t)
+    (on-local-not-kept-requires t)
+    (on-local-same-length-10 t)
+    (on-local-same-length-11 t)
+    (on-local-same-length-12 t)
+    (on-local-same-length-13 t)
+    (on-local-same-length-14 t)
+    (on-local-same-length-15 t)
+    (on-local-returns-3 t)
+    (on-local-settle-frame-requires t)
+    (on-local-sub-analyze-2 t)
+    (on-local-deeper-requires t)
+    (on-local-analyze-requires-2 t)
+    (on-local-enum-known-w t)
+    (on-local-enum-told-3 t)
+    (on-local-same-length-16 t)
+    (on-local-same-length-17 t)
+    (on-local-same-length-18 t)
+    (on-local-same-length-19 t)
+    (on-local-same-length-20 t)
+    (on-local-same-length-21 t)
+    (on-local-returns-4 t)
+    (on-local-finish-local-requires t)
+    (on-local-same-length-22 t)
+    (on-local-same-length-23 t)
+    (on-local-same-length-24 t)
+    (on-local-same-length-25 t)
+    (on-local-same-length-26 t)
+    (on-local-same-length-27 t)
+    (on-local-returns-5 t)

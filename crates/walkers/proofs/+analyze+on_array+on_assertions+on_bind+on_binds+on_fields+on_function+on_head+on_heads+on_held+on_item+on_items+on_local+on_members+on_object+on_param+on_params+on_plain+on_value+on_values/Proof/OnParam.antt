@@ -15,8 +15,8 @@ use Rattle.joins.proofs.Onward.{ready-value, longer-value}
 use Rattle.joins.proofs.Asking.{opened, written-counted}
 use Rattle.joins.proofs.Returns.{param-alone, param-unopened, param-stopped, param-ended}
 use Rattle.walkers.proofs.analyze.Reads as analyze
-use Rattle.walkers.proofs.walk_param.Reads as walk-param
-use Rattle.walkers.proofs.+analyze+analyze_function+analyze_obj_members+walk_array+walk_assertions+walk_bind+walk_binds+walk_fields+walk_head+walk_heads+walk_held+walk_item+walk_items+walk_local+walk_object+walk_param+walk_params+walk_plain+walk_value+walk_values.Lts-walk_param as walk-param-lts
+use Rattle.walkers.proofs.on_param.Reads as on-param
+use Rattle.walkers.proofs.+analyze+on_array+on_assertions+on_bind+on_binds+on_fields+on_function+on_head+on_heads+on_held+on_item+on_items+on_local+on_members+on_object+on_param+on_params+on_plain+on_value+on_values.Lts-on_param as on-param-lts
 use Rattle.depths.proofs.AnalysisResult.no_dependence.Reads as no-dependence-reads
 use Rattle.keeping.proofs.close_spec.Reads as close-spec-reads
 use Rattle.keeping.proofs.record_spec_init.Reads as record-spec-init-reads
@@ -24,9 +24,9 @@ use Rattle.opening.proofs.open_value.Reads as open-value-reads
 use Rattle.packed.proofs.number_at.Reads as number-at-reads
 use Rattle.walkers.proofs.no_spec.Reads as no-spec-reads
 use Rattle.walkers.proofs.no_value.Reads as no-value-reads
-use Rattle.walkers.proofs.+analyze+analyze_function+analyze_obj_members+walk_array+walk_assertions+walk_bind+walk_binds+walk_fields+walk_head+walk_heads+walk_held+walk_item+walk_items+walk_local+walk_object+walk_param+walk_params+walk_plain+walk_value+walk_values.Proof.Measures.{analyze-below, walk-param-at}
+use Rattle.walkers.proofs.+analyze+on_array+on_assertions+on_bind+on_binds+on_fields+on_function+on_head+on_heads+on_held+on_item+on_items+on_local+on_members+on_object+on_param+on_params+on_plain+on_value+on_values.Proof.Measures.{analyze-below, on-param-at}
 
-walk-param-add-number-at : (t : ℕ) → walk-param-lts.Need-add-number-at (
+on-param-add-number-at : (t : ℕ) → on-param-lts.Need-add-number-at (
   number-at-reads.Asked,
   number-at-reads.Learnt,
   no-dependence-reads.Asked,
@@ -43,13 +43,13 @@ walk-param-add-number-at : (t : ℕ) → walk-param-lts.Need-add-number-at (
   no-spec-reads.Learnt,
   close-spec-reads.Asked,
   close-spec-reads.Learnt,
-) (walk-param-at t) walk-param.Post
-walk-param-add-number-at t c =
+) (on-param-at t) on-param.Post
+on-param-add-number-at t c =
     let args· = c .before .before .before .before .before .before .before .args in
     let pre· = c .before .before .before .before .before .before .before .pre in
     omega (arith, (param-fits (args· .tree .now) (args· .nest) (args· .at) ((pre· .1 .1) .0)), (pre· .1 .0) .short)
 
-walk-param-number-at-requires : (t : ℕ) → walk-param-lts.Need-number-at-requires (
+on-param-number-at-requires : (t : ℕ) → on-param-lts.Need-number-at-requires (
   number-at-reads.Asked,
   number-at-reads.Learnt,
   no-dependence-reads.Asked,
@@ -66,10 +66,10 @@ walk-param-number-at-requires : (t : ℕ) → walk-param-lts.Need-number-at-requ
   no-spec-reads.Learnt,
   close-spec-reads.Asked,
   close-spec-reads.Learnt,
-) (walk-param-at t) walk-param.Post
-walk-param-number-at-requires t c κs = search needs
+) (on-param-at t) on-param.Post
+on-param-number-at-requires t c κs = search needs
 
-walk-param-add-number-at-2 : (t : ℕ) → walk-param-lts.Need-add-number-at-2 (
+on-param-add-number-at-2 : (t : ℕ) → on-param-lts.Need-add-number-at-2 (
   number-at-reads.Asked,
   number-at-reads.Learnt,
   no-dependence-reads.Asked,
@@ -86,13 +86,13 @@ walk-param-add-number-at-2 : (t : ℕ) → walk-param-lts.Need-add-number-at-2 (
   no-spec-reads.Learnt,
   close-spec-reads.Asked,
   close-spec-reads.Learnt,
-) (walk-param-at t) walk-param.Post
-walk-param-add-number-at-2 t c =
+) (on-param-at t) on-param.Post
+on-param-add-number-at-2 t c =
     let args· = c .before .before .before .before .before .before .before .before .args in
     let pre· = c .before .before .before .before .before .before .before .before .pre in
     omega (arith, (param-fits (args· .tree .now) (args· .nest) (args· .at) ((pre· .1 .1) .0)), (pre· .1 .0) .short)
 
-walk-param-number-at-requires-2 : (t : ℕ) → walk-param-lts.Need-number-at-requires-2 (
+on-param-number-at-requires-2 : (t : ℕ) → on-param-lts.Need-number-at-requires-2 (
   number-at-reads.Asked,
   number-at-reads.Learnt,
   no-dependence-reads.Asked,
@@ -109,10 +109,10 @@ walk-param-number-at-requires-2 : (t : ℕ) → walk-param-lts.Need-number-at-re
   no-spec-reads.Learnt,
   close-spec-reads.Asked,
   close-spec-reads.Learnt,
-) (walk-param-at t) walk-param.Post
-walk-param-number-at-requires-2 t c κs = search needs
+) (on-param-at t) on-param.Post
+on-param-number-at-requires-2 t c κs = search needs
 
-walk-param-no-dependence-requires : (t : ℕ) → walk-param-lts.Need-no-dependence-requires (
+on-param-no-dependence-requires : (t : ℕ) → on-param-lts.Need-no-dependence-requires (
   number-at-reads.Asked,
   number-at-reads.Learnt,
   no-dependence-reads.Asked,
@@ -129,10 +129,10 @@ walk-param-no-dependence-requires : (t : ℕ) → walk-param-lts.Need-no-depende
   no-spec-reads.Learnt,
   close-spec-reads.Asked,
   close-spec-reads.Learnt,
-) (walk-param-at t) walk-param.Post
-walk-param-no-dependence-requires t c κs = search needs
+) (on-param-at t) on-param.Post
+on-param-no-dependence-requires t c κs = search needs
 
-walk-param-add-record-spec-init : (t : ℕ) → walk-param-lts.Need-add-record-spec-init (
+on-param-add-record-spec-init : (t : ℕ) → on-param-lts.Need-add-record-spec-init (
   number-at-reads.Asked,
   number-at-reads.Learnt,
   no-dependence-reads.Asked,
@@ -149,13 +149,13 @@ walk-param-add-record-spec-init : (t : ℕ) → walk-param-lts.Need-add-record-s
   no-spec-reads.Learnt,
   close-spec-reads.Asked,
   close-spec-reads.Learnt,
-) (walk-param-at t) walk-param.Post
-walk-param-add-record-spec-init t c =
+) (on-param-at t) on-param.Post
+on-param-add-record-spec-init t c =
     let args· = c .before .before .before .before .before .before .before .before .before .before .before .before .before .before .before .args in
     let pre· = c .before .before .before .before .before .before .before .before .before .before .before .before .before .before .before .pre in
     omega (arith, (param-fits (args· .tree .now) (args· .nest) (args· .at) ((pre· .1 .1) .0)), (pre· .1 .0) .short)
 
-walk-param-record-spec-init-requires : (t : ℕ) → walk-param-lts.Need-record-spec-init-requires (
+on-param-record-spec-init-requires : (t : ℕ) → on-param-lts.Need-record-spec-init-requires (
   number-at-reads.Asked,
   number-at-reads.Learnt,
   no-dependence-reads.Asked,
@@ -172,13 +172,13 @@ walk-param-record-spec-init-requires : (t : ℕ) → walk-param-lts.Need-record-
   no-spec-reads.Learnt,
   close-spec-reads.Asked,
   close-spec-reads.Learnt,
-) (walk-param-at t) walk-param.Post
+) (on-param-at t) on-param.Post
 unfolding naming-of
-walk-param-record-spec-init-requires t c κs =
+on-param-record-spec-init-requires t c κs =
     let pre· = c .before .before .before .before .before .before .before .before .before .before .before .before .before .before .before .pre in
     (let f = ((pre· .1 .0) .fit) in ((omega (arith, f .locals-long, f .few-locals), omega (arith, f .frames-long, f .few-frames), f .references-long, f .few-references, f .first-there), omega (arith, (pre· .1 .1) .1), omega arith))
 
-walk-param-same-length : (t : ℕ) → walk-param-lts.Need-same-length (
+on-param-same-length : (t : ℕ) → on-param-lts.Need-same-length (
   number-at-reads.Asked,
   number-at-reads.Learnt,
   no-dependence-reads.Asked,
@@ -195,10 +195,10 @@ walk-param-same-length : (t : ℕ) → walk-param-lts.Need-same-length (
   no-spec-reads.Learnt,
   close-spec-reads.Asked,
   close-spec-reads.Learnt,
-) (walk-param-at t) walk-param.Post
-walk-param-same-length t c = c .before .before .before .before .before .before .record-spec-init .kept .0
+) (on-param-at t) on-param.Post
+on-param-same-length t c = c .before .before .before .before .before .before .record-spec-init .kept .0
 
-walk-param-same-length-2 : (t : ℕ) → walk-param-lts.Need-same-length-2 (
+on-param-same-length-2 : (t : ℕ) → on-param-lts.Need-same-length-2 (
   number-at-reads.Asked,
   number-at-reads.Learnt,
   no-dependence-reads.Asked,
@@ -215,10 +215,10 @@ walk-param-same-length-2 : (t : ℕ) → walk-param-lts.Need-same-length-2 (
   no-spec-reads.Learnt,
   close-spec-reads.Asked,
   close-spec-reads.Learnt,
-) (walk-param-at t) walk-param.Post
-walk-param-same-length-2 t c = c .before .before .before .before .before .before .record-spec-init .kept .1 .0
+) (on-param-at t) on-param.Post
+on-param-same-length-2 t c = c .before .before .before .before .before .before .record-spec-init .kept .1 .0
 
-walk-param-same-length-3 : (t : ℕ) → walk-param-lts.Need-same-length-3 (
+on-param-same-length-3 : (t : ℕ) → on-param-lts.Need-same-length-3 (
   number-at-reads.Asked,
   number-at-reads.Learnt,
   no-dependence-reads.Asked,
@@ -235,10 +235,10 @@ walk-param-same-length-3 : (t : ℕ) → walk-param-lts.Need-same-length-3 (
   no-spec-reads.Learnt,
   close-spec-reads.Asked,
   close-spec-reads.Learnt,
-) (walk-param-at t) walk-param.Post
-walk-param-same-length-3 t c = search needs
+) (on-param-at t) on-param.Post
+on-param-same-length-3 t c = search needs
 
-walk-param-same-length-4 : (t : ℕ) → walk-param-lts.Need-same-length-4 (
+on-param-same-length-4 : (t : ℕ) → on-param-lts.Need-same-length-4 (
   number-at-reads.Asked,
   number-at-reads.Learnt,
   no-dependence-reads.Asked,
@@ -255,10 +255,10 @@ walk-param-same-length-4 : (t : ℕ) → walk-param-lts.Need-same-length-4 (
   no-spec-reads.Learnt,
   close-spec-reads.Asked,
   close-spec-reads.Learnt,
-) (walk-param-at t) walk-param.Post
-walk-param-same-length-4 t c = c .before .before .before .before .before .before .record-spec-init .kept .1 .1 .0
+) (on-param-at t) on-param.Post
+on-param-same-length-4 t c = c .before .before .before .before .before .before .record-spec-init .kept .1 .1 .0
 
-walk-param-returns : (t : ℕ) → walk-param-lts.Need-returns (
+on-param-returns : (t : ℕ) → on-param-lts.Need-returns (
   number-at-reads.Asked,
   number-at-reads.Learnt,
   no-dependence-reads.Asked,
@@ -275,9 +275,9 @@ walk-param-returns : (t : ℕ) → walk-param-lts.Need-returns (
   no-spec-reads.Learnt,
   close-spec-reads.Asked,
   close-spec-reads.Learnt,
-) (walk-param-at t) walk-param.Post
+) (on-param-at t) on-param.Post
 unfolding naming-of stack spec-mark spec-numbers
-walk-param-returns t c =
+on-param-returns t c =
     let args· = c .before .before .before .before .before .before .before .before .before .before .before .before .before .before .before .before .before .before .before .before .before .before .args in
     let pre· = c .before .before .before .before .before .before .before .before .before .before .before .before .before .before .before .before .before .before .before .before .before .before .pre in
     let number-at2· = c .before .before .before .before .before .before .before .before .before .before .before .before .before .number-at2 in
@@ -287,7 +287,7 @@ walk-param-returns t c =
     let record-spec-init· = c .before .before .before .before .before .before .record-spec-init in
     param-alone (args· .tree .now) (args· .nest) (args· .at) (args· .kept) ((pre· .1 .1) .0) (place-of (args· .here)) (number-at2· .ensures) (number-at· .ensures) (if1· .taken) (stack-depending _ (args· .st) _ (no-dependence· .ensures)) (written-counted _ _ ((pre· .1 .0) .fit)) refl refl refl (record-spec-init· .ensures .walks _ _ (fit-depending _ ((pre· .1 .0) .fit)))
 
-walk-param-open-value-requires : (t : ℕ) → walk-param-lts.Need-open-value-requires (
+on-param-open-value-requires : (t : ℕ) → on-param-lts.Need-open-value-requires (
   number-at-reads.Asked,
   number-at-reads.Learnt,
   no-dependence-reads.Asked,
@@ -304,13 +304,13 @@ walk-param-open-value-requires : (t : ℕ) → walk-param-lts.Need-open-value-re
   no-spec-reads.Learnt,
   close-spec-reads.Asked,
   close-spec-reads.Learnt,
-) (walk-param-at t) walk-param.Post
+) (on-param-at t) on-param.Post
 unfolding naming-of
-walk-param-open-value-requires t c κs =
+on-param-open-value-requires t c κs =
     let pre· = c .before .before .before .before .before .before .before .before .before .before .before .pre in
     (pre· .1 .0) .fit .frames-long
 
-walk-param-enum-known-opened : (t : ℕ) → walk-param-lts.Need-enum-known-opened (
+on-param-enum-known-opened : (t : ℕ) → on-param-lts.Need-enum-known-opened (
   number-at-reads.Asked,
   number-at-reads.Learnt,
   no-dependence-reads.Asked,
@@ -327,10 +327,10 @@ walk-param-enum-known-opened : (t : ℕ) → walk-param-lts.Need-enum-known-open
   no-spec-reads.Learnt,
   close-spec-reads.Asked,
   close-spec-reads.Learnt,
-) (walk-param-at t) walk-param.Post
-walk-param-enum-known-opened t c = search needs
+) (on-param-at t) on-param.Post
+on-param-enum-known-opened t c = search needs
 
-walk-param-enum-told : (t : ℕ) → walk-param-lts.Need-enum-told (
+on-param-enum-told : (t : ℕ) → on-param-lts.Need-enum-told (
   number-at-reads.Asked,
   number-at-reads.Learnt,
   no-dependence-reads.Asked,
@@ -347,10 +347,10 @@ walk-param-enum-told : (t : ℕ) → walk-param-lts.Need-enum-told (
   no-spec-reads.Learnt,
   close-spec-reads.Asked,
   close-spec-reads.Learnt,
-) (walk-param-at t) walk-param.Post
-walk-param-enum-told t c = search needs
+) (on-param-at t) on-param.Post
+on-param-enum-told t c = search needs
 
-walk-param-no-value-requires : (t : ℕ) → walk-param-lts.Need-no-value-requires (
+on-param-no-value-requires : (t : ℕ) → on-param-lts.Need-no-value-requires (
   number-at-reads.Asked,
   number-at-reads.Learnt,
   no-dependence-reads.Asked,
@@ -367,10 +367,10 @@ walk-param-no-value-requires : (t : ℕ) → walk-param-lts.Need-no-value-requir
   no-spec-reads.Learnt,
   close-spec-reads.Asked,
   close-spec-reads.Learnt,
-) (walk-param-at t) walk-param.Post
-walk-param-no-value-requires t c κs = search needs
+) (on-param-at t) on-param.Post
+on-param-no-value-requires t c κs = search needs
 
-walk-param-same-length-5 : (t : ℕ) → walk-param-lts.Need-same-length-5 (
+on-param-same-length-5 : (t : ℕ) → on-param-lts.Need-same-length-5 (
   number-at-reads.Asked,
   number-at-reads.Learnt,
   no-dependence-reads.Asked,
@@ -387,10 +387,10 @@ walk-param-same-length-5 : (t : ℕ) → walk-param-lts.Need-same-length-5 (
   no-spec-reads.Learnt,
   close-spec-reads.Asked,
   close-spec-reads.Learnt,
-) (walk-param-at t) walk-param.Post
-walk-param-same-length-5 t c = c .before .before .before .before .before .open-value .kept .0
+) (on-param-at t) on-param.Post
+on-param-same-length-5 t c = c .before .before .before .before .before .open-value .kept .0
 
-walk-param-returns-2 : (t : ℕ) → walk-param-lts.Need-returns-2 (
+on-param-returns-2 : (t : ℕ) → on-param-lts.Need-returns-2 (
   number-at-reads.Asked,
   number-at-reads.Learnt,
   no-dependence-reads.Asked,
@@ -407,9 +407,9 @@ walk-param-returns-2 : (t : ℕ) → walk-param-lts.Need-returns-2 (
   no-spec-reads.Learnt,
   close-spec-reads.Asked,
   close-spec-reads.Learnt,
-) (walk-param-at t) walk-param.Post
+) (on-param-at t) on-param.Post
 unfolding naming-of
-walk-param-returns-2 t c =
+on-param-returns-2 t c =
     let args· = c .before .before .before .before .before .before .before .before .before .before .before .before .before .before .before .before .before .args in
     let pre· = c .before .before .before .before .before .before .before .before .before .before .before .before .before .before .before .before .before .pre in
     let number-at2· = c .before .before .before .before .before .before .before .before .number-at2 in
@@ -420,7 +420,7 @@ walk-param-returns-2 t c =
     let no-value· = c .no-value in
     param-unopened (args· .tree .now) (args· .nest) (args· .at) (args· .kept) ((pre· .1 .1) .0) (place-of (args· .here)) (number-at2· .ensures) (number-at· .ensures) (if1· .left) (open-value· .ensures .opened _ _ _ _ _ ((pre· .1 .0) .fit)) (enum-told· .given .1) (valueless (no-value· .ensures) (enum-told· .given .1))
 
-walk-param-add-analyze : (t : ℕ) → walk-param-lts.Need-add-analyze (
+on-param-add-analyze : (t : ℕ) → on-param-lts.Need-add-analyze (
   number-at-reads.Asked,
   number-at-reads.Learnt,
   no-dependence-reads.Asked,
@@ -437,13 +437,13 @@ walk-param-add-analyze : (t : ℕ) → walk-param-lts.Need-add-analyze (
   no-spec-reads.Learnt,
   close-spec-reads.Asked,
   close-spec-reads.Learnt,
-) (walk-param-at t) walk-param.Post
-walk-param-add-analyze t c =
+) (on-param-at t) on-param.Post
+on-param-add-analyze t c =
     let args· = c .before .before .before .before .before .before .before .before .before .before .before .before .before .before .before .before .before .before .before .before .before .before .before .args in
     let pre· = c .before .before .before .before .before .before .before .before .before .before .before .before .before .before .before .before .before .before .before .before .before .before .before .pre in
     omega (arith, (param-fits (args· .tree .now) (args· .nest) (args· .at) ((pre· .1 .1) .0)), (pre· .1 .0) .short)
 
-walk-param-analyze-requires : (t : ℕ) → walk-param-lts.Need-analyze-requires (
+on-param-analyze-requires : (t : ℕ) → on-param-lts.Need-analyze-requires (
   number-at-reads.Asked,
   number-at-reads.Learnt,
   no-dependence-reads.Asked,
@@ -460,9 +460,9 @@ walk-param-analyze-requires : (t : ℕ) → walk-param-lts.Need-analyze-requires
   no-spec-reads.Learnt,
   close-spec-reads.Asked,
   close-spec-reads.Learnt,
-) (walk-param-at t) walk-param.Post
+) (on-param-at t) on-param.Post
 unfolding naming-of
-walk-param-analyze-requires t c κs =
+on-param-analyze-requires t c κs =
     let pre· = c .before .before .before .before .before .before .before .before .before .before .before .before .before .before .before .before .before .before .before .before .before .before .before .pre in
     let args· = c .before .before .before .before .before .before .before .before .before .before .before .before .before .before .before .before .before .before .before .before .before .before .before .args in
     let open-value· = c .before .before .before .before .before .before .before .before .before .before .before .open-value in
@@ -471,7 +471,7 @@ walk-param-analyze-requires t c κs =
     let number-at2· = c .before .before .before .before .before .before .before .before .before .before .before .before .before .before .number-at2 in
     (omega (arith, pre· .0), ((ready-on (omega arith) (omega arith) (ready-value (args· .at) (pre· .1 .0) (open-value· .ensures .opened _ _ _ _ _ ((pre· .1 .0) .fit)) (opened· .given .1))), param-default (args· .tree .now) (args· .nest) (args· .at) ((pre· .1 .1) .0) (λ e. (if1· .left) ((number-at2· .ensures) ∙ e))))
 
-walk-param-enum-known-w : (t : ℕ) → walk-param-lts.Need-enum-known-w (
+on-param-enum-known-w : (t : ℕ) → on-param-lts.Need-enum-known-w (
   number-at-reads.Asked,
   number-at-reads.Learnt,
   no-dependence-reads.Asked,
@@ -488,10 +488,10 @@ walk-param-enum-known-w : (t : ℕ) → walk-param-lts.Need-enum-known-w (
   no-spec-reads.Learnt,
   close-spec-reads.Asked,
   close-spec-reads.Learnt,
-) (walk-param-at t) walk-param.Post
-walk-param-enum-known-w t c = search needs
+) (on-param-at t) on-param.Post
+on-param-enum-known-w t c = search needs
 
-walk-param-enum-told-2 : (t : ℕ) → walk-param-lts.Need-enum-told-2 (
+on-param-enum-told-2 : (t : ℕ) → on-param-lts.Need-enum-told-2 (
   number-at-reads.Asked,
   number-at-reads.Learnt,
   no-dependence-reads.Asked,
@@ -508,10 +508,10 @@ walk-param-enum-told-2 : (t : ℕ) → walk-param-lts.Need-enum-told-2 (
   no-spec-reads.Learnt,
   close-spec-reads.Asked,
   close-spec-reads.Learnt,
-) (walk-param-at t) walk-param.Post
-walk-param-enum-told-2 t c = search needs
+) (on-param-at t) on-param.Post
+on-param-enum-told-2 t c = search needs
 
-walk-param-no-spec-requires : (t : ℕ) → walk-param-lts.Need-no-spec-requires (
+on-param-no-spec-requires : (t : ℕ) → on-param-lts.Need-no-spec-requires (
   number-at-reads.Asked,
   number-at-reads.Learnt,
   no-dependence-reads.Asked,
@@ -528,10 +528,10 @@ walk-param-no-spec-requires : (t : ℕ) → walk-param-lts.Need-no-spec-requires
   no-spec-reads.Learnt,
   close-spec-reads.Asked,
   close-spec-reads.Learnt,
-) (walk-param-at t) walk-param.Post
-walk-param-no-spec-requires t c κs = search needs
+) (on-param-at t) on-param.Post
+on-param-no-spec-requires t c κs = search needs
 
-walk-param-same-length-6 : (t : ℕ) → walk-param-lts.Need-same-length-6 (
+on-param-same-length-6 : (t : ℕ) → on-param-lts.Need-same-length-6 (
   number-at-reads.Asked,
   number-at-reads.Learnt,
   no-dependence-reads.Asked,
@@ -548,10 +548,10 @@ walk-param-same-length-6 : (t : ℕ) → walk-param-lts.Need-same-length-6 (
   no-spec-reads.Learnt,
   close-spec-reads.Asked,
   close-spec-reads.Learnt,
-) (walk-param-at t) walk-param.Post
-walk-param-same-length-6 t c = c .before .before .before .before .before .before .before .before .before .before .before .before .before .before .before .analyze .kept .1 .0
+) (on-param-at t) on-param.Post
+on-param-same-length-6 t c = c .before .before .before .before .before .before .before .before .before .before .before .before .before .before .before .analyze .kept .1 .0
 
-walk-param-same-length-7 : (t : ℕ) → walk-param-lts.Need-same-length-7 (
+on-param-same-length-7 : (t : ℕ) → on-param-lts.Need-same-length-7 (
   number-at-reads.Asked,
   number-at-reads.Learnt,
   no-dependence-reads.Asked,
@@ -568,10 +568,10 @@ walk-param-same-length-7 : (t : ℕ) → walk-param-lts.Need-same-length-7 (
   no-spec-reads.Learnt,
   close-spec-reads.Asked,
   close-spec-reads.Learnt,
-) (walk-param-at t) walk-param.Post
-walk-param-same-length-7 t c = c .before .before .before .before .before .before .before .before .before .before .before .before .before .before .before .analyze .kept .1 .1 .0
+) (on-param-at t) on-param.Post
+on-param-same-length-7 t c = c .before .before .before .before .before .before .before .before .before .before .before .before .before .before .before .analyze .kept .1 .1 .0
 
-walk-param-same-length-8 : (t : ℕ) → walk-param-lts.Need-same-length-8 (
+on-param-same-length-8 : (t : ℕ) → on-param-lts.Need-same-length-8 (
   number-at-reads.Asked,
   number-at-reads.Learnt,
   no-dependence-reads.Asked,
@@ -588,10 +588,10 @@ walk-param-same-length-8 : (t : ℕ) → walk-param-lts.Need-same-length-8 (
   no-spec-reads.Learnt,
   close-spec-reads.Asked,
   close-spec-reads.Learnt,
-) (walk-param-at t) walk-param.Post
-walk-param-same-length-8 t c = c .before .before .before .before .before .before .before .before .before .before .before .before .before .before .before .analyze .kept .1 .1 .1 .0
+) (on-param-at t) on-param.Post
+on-param-same-length-8 t c = c .before .before .before .before .before .before .before .before .before .before .before .before .before .before .before .analyze .kept .1 .1 .1 .0
 
-walk-param-same-length-9 : (t : ℕ) → walk-param-lts.Need-same-length-9 (
+on-param-same-length-9 : (t : ℕ) → on-param-lts.Need-same-length-9 (
   number-at-reads.Asked,
   number-at-reads.Learnt,
   no-dependence-reads.Asked,
@@ -608,10 +608,10 @@ walk-param-same-length-9 : (t : ℕ) → walk-param-lts.Need-same-length-9 (
   no-spec-reads.Learnt,
   close-spec-reads.Asked,
   close-spec-reads.Learnt,
-) (walk-param-at t) walk-param.Post
-walk-param-same-length-9 t c = c .before .before .before .before .before .before .before .before .before .before .before .before .before .before .before .analyze .kept .1 .1 .1 .1 .0 ∙ c .before .before .before .before .before .before .before .before .before .before .before .before .before .before .before .before .before .before .before .before .before .before .before .before .before .before .before .open-value .kept .0
+) (on-param-at t) on-param.Post
+on-param-same-length-9 t c = c .before .before .before .before .before .before .before .before .before .before .before .before .before .before .before .analyze .kept .1 .1 .1 .1 .0 ∙ c .before .before .before .before .before .before .before .before .before .before .before .before .before .before .before .before .before .before .before .before .before .before .before .before .before .before .before .open-value .kept .0
 
-walk-param-same-length-10 : (t : ℕ) → walk-param-lts.Need-same-length-10 (
+on-param-same-length-10 : (t : ℕ) → on-param-lts.Need-same-length-10 (
   number-at-reads.Asked,
   number-at-reads.Learnt,
   no-dependence-reads.Asked,
@@ -628,10 +628,10 @@ walk-param-same-length-10 : (t : ℕ) → walk-param-lts.Need-same-length-10 (
   no-spec-reads.Learnt,
   close-spec-reads.Asked,
   close-spec-reads.Learnt,
-) (walk-param-at t) walk-param.Post
-walk-param-same-length-10 t c = c .before .before .before .before .before .before .before .before .before .before .before .before .before .before .before .analyze .kept .1 .1 .1 .1 .1 .0
+) (on-param-at t) on-param.Post
+on-param-same-length-10 t c = c .before .before .before .before .before .before .before .before .before .before .before .before .before .before .before .analyze .kept .1 .1 .1 .1 .1 .0
 
-walk-param-same-length-11 : (t : ℕ) → walk-param-lts.Need-same-length-11 (
+on-param-same-length-11 : (t : ℕ) → on-param-lts.Need-same-length-11 (
   number-at-reads.Asked,
   number-at-reads.Learnt,
   no-dependence-reads.Asked,
@@ -648,10 +648,10 @@ walk-param-same-length-11 : (t : ℕ) → walk-param-lts.Need-same-length-11 (
   no-spec-reads.Learnt,
   close-spec-reads.Asked,
   close-spec-reads.Learnt,
-) (walk-param-at t) walk-param.Post
-walk-param-same-length-11 t c = c .before .before .before .before .before .before .before .before .before .before .before .before .before .before .before .analyze .kept .1 .1 .1 .1 .1 .1 .0
+) (on-param-at t) on-param.Post
+on-param-same-length-11 t c = c .before .before .before .before .before .before .before .before .before .before .before .before .before .before .before .analyze .kept .1 .1 .1 .1 .1 .1 .0
 
-walk-param-returns-3 : (t : ℕ) → walk-param-lts.Need-returns-3 (
+on-param-returns-3 : (t : ℕ) → on-param-lts.Need-returns-3 (
   number-at-reads.Asked,
   number-at-reads.Learnt,
   no-dependence-reads.Asked,
@@ -668,9 +668,9 @@ walk-param-returns-3 : (t : ℕ) → walk-param-lts.Need-returns-3 (
   no-spec-reads.Learnt,
   close-spec-reads.Asked,
   close-spec-reads.Learnt,
-) (walk-param-at t) walk-param.Post
+) (on-param-at t) on-param.Post
 unfolding naming-of
-walk-param-returns-3 t c =
+on-param-returns-3 t c =
     let args· = c .before .before .before .before .before .before .before .before .before .before .before .before .before .before .before .before .before .before .before .before .before .before .before .before .before .before .before .before .before .before .before .before .before .before .before .before .before .before .before .args in
     let pre· = c .before .before .before .before .before .before .before .before .before .before .before .before .before .before .before .before .before .before .before .before .before .before .before .before .before .before .before .before .before .before .before .before .before .before .before .before .before .before .before .pre in
     let number-at2· = c .before .before .before .before .before .before .before .before .before .before .before .before .before .before .before .before .before .before .before .before .before .before .before .before .before .before .before .before .before .before .number-at2 in
@@ -683,7 +683,7 @@ walk-param-returns-3 t c =
     let no-spec· = c .no-spec in
     param-stopped (args· .tree .now) (args· .nest) (args· .at) (args· .kept) ((pre· .1 .1) .0) (place-of (args· .here)) (number-at2· .ensures) (number-at· .ensures) (if1· .left) (open-value· .ensures .opened _ _ _ _ _ ((pre· .1 .0) .fit)) (opened· .given .1) (record { out = refl; diagnostics = refl }) (analyze· .ensures) (enum-told2· .given .1) (specless (no-spec· .ensures) (enum-told2· .given .1))
 
-walk-param-close-spec-requires : (t : ℕ) → walk-param-lts.Need-close-spec-requires (
+on-param-close-spec-requires : (t : ℕ) → on-param-lts.Need-close-spec-requires (
   number-at-reads.Asked,
   number-at-reads.Learnt,
   no-dependence-reads.Asked,
@@ -700,9 +700,9 @@ walk-param-close-spec-requires : (t : ℕ) → walk-param-lts.Need-close-spec-re
   no-spec-reads.Learnt,
   close-spec-reads.Asked,
   close-spec-reads.Learnt,
-) (walk-param-at t) walk-param.Post
+) (on-param-at t) on-param.Post
 unfolding naming-of
-walk-param-close-spec-requires t c κs =
+on-param-close-spec-requires t c κs =
     let analyze· = c .before .before .before .before .before .before .before .before .before .before .before .before .before .before .before .before .before .before .before .before .analyze in
     let w· = c .before .before .before .before .before .before .w in
     let pre· = c .before .before .before .before .before .before .before .before .before .before .before .before .before .before .before .before .before .before .before .before .before .before .before .before .before .before .before .before .before .before .before .before .before .before .before .before .before .before .before .before .before .before .before .before .pre in
@@ -711,7 +711,7 @@ walk-param-close-spec-requires t c κs =
     let opened· = c .before .before .before .before .before .before .before .before .before .before .before .before .before .before .before .before .before .before .before .before .before .before .before .before .before .before .before .before .opened in
     (let f = (went-fit (analyze· .ensures) (w· .given .1)) in ((omega (arith, f .locals-long, f .few-locals), omega (arith, f .frames-long, f .few-frames), f .references-long, f .few-references, f .first-there), omega (arith, (pre· .1 .1) .1), longer-value (args· .tree .now) (args· .nest) _ (args· .at) _ (place-of (args· .here)) ((pre· .1 .0) .fit) (open-value· .ensures .opened _ _ _ _ _ ((pre· .1 .0) .fit)) (opened· .given .1) (analyze· .ensures) (w· .given .1), f .out-long, f .frames-kept))
 
-walk-param-same-length-12 : (t : ℕ) → walk-param-lts.Need-same-length-12 (
+on-param-same-length-12 : (t : ℕ) → on-param-lts.Need-same-length-12 (
   number-at-reads.Asked,
   number-at-reads.Learnt,
   no-dependence-reads.Asked,
@@ -728,10 +728,10 @@ walk-param-same-length-12 : (t : ℕ) → walk-param-lts.Need-same-length-12 (
   no-spec-reads.Learnt,
   close-spec-reads.Asked,
   close-spec-reads.Learnt,
-) (walk-param-at t) walk-param.Post
-walk-param-same-length-12 t c = c .before .before .before .before .before .before .before .before .close-spec .kept .0 ∙ c .before .before .before .before .before .before .before .before .before .before .before .before .before .before .before .before .before .before .before .before .before .before .before .before .before .before .before .before .before .analyze .kept .1 .0
+) (on-param-at t) on-param.Post
+on-param-same-length-12 t c = c .before .before .before .before .before .before .before .before .close-spec .kept .0 ∙ c .before .before .before .before .before .before .before .before .before .before .before .before .before .before .before .before .before .before .before .before .before .before .before .before .before .before .before .before .before .analyze .kept .1 .0
 
-walk-param-same-length-13 : (t : ℕ) → walk-param-lts.Need-same-length-13 (
+on-param-same-length-13 : (t : ℕ) → on-param-lts.Need-same-length-13 (
   number-at-reads.Asked,
   number-at-reads.Learnt,
   no-dependence-reads.Asked,
@@ -748,10 +748,10 @@ walk-param-same-length-13 : (t : ℕ) → walk-param-lts.Need-same-length-13 (
   no-spec-reads.Learnt,
   close-spec-reads.Asked,
   close-spec-reads.Learnt,
-) (walk-param-at t) walk-param.Post
-walk-param-same-length-13 t c = c .before .before .before .before .before .before .before .before .before .before .before .before .before .before .before .before .before .before .before .before .before .before .before .before .before .before .before .before .before .analyze .kept .1 .1 .0
+) (on-param-at t) on-param.Post
+on-param-same-length-13 t c = c .before .before .before .before .before .before .before .before .before .before .before .before .before .before .before .before .before .before .before .before .before .before .before .before .before .before .before .before .before .analyze .kept .1 .1 .0
 
-walk-param-same-length-14 : (t : ℕ) → walk-param-lts.Need-same-length-14 (
+on-param-same-length-14 : (t : ℕ) → on-param-lts.Need-same-length-14 (
   number-at-reads.Asked,
   number-at-reads.Learnt,
   no-dependence-reads.Asked,
@@ -768,10 +768,10 @@ walk-param-same-length-14 : (t : ℕ) → walk-param-lts.Need-same-length-14 (
   no-spec-reads.Learnt,
   close-spec-reads.Asked,
   close-spec-reads.Learnt,
-) (walk-param-at t) walk-param.Post
-walk-param-same-length-14 t c = c .before .before .before .before .before .before .before .before .close-spec .kept .1 .0 ∙ c .before .before .before .before .before .before .before .before .before .before .before .before .before .before .before .before .before .before .before .before .before .before .before .before .before .before .before .before .before .analyze .kept .1 .1 .1 .0
+) (on-param-at t) on-param.Post
+on-param-same-length-14 t c = c .before .before .before .before .before .before .before .before .close-spec .kept .1 .0 ∙ c .before .before .before .before .before .before .before .before .before .before .before .before .before .before .before .before .before .before .before .before .before .before .before .before .before .before .before .before .before .analyze .kept .1 .1 .1 .0
 
-walk-param-same-length-15 : (t : ℕ) → walk-param-lts.Need-same-length-15 (
+on-param-same-length-15 : (t : ℕ) → on-param-lts.Need-same-length-15 (
   number-at-reads.Asked,
   number-at-reads.Learnt,
   no-dependence-reads.Asked,
@@ -788,10 +788,10 @@ walk-param-same-length-15 : (t : ℕ) → walk-param-lts.Need-same-length-15 (
   no-spec-reads.Learnt,
   close-spec-reads.Asked,
   close-spec-reads.Learnt,
-) (walk-param-at t) walk-param.Post
-walk-param-same-length-15 t c = c .before .before .before .before .before .before .before .before .before .before .before .before .before .before .before .before .before .before .before .before .before .before .before .before .before .before .before .before .before .analyze .kept .1 .1 .1 .1 .0 ∙ c .before .before .before .before .before .before .before .before .before .before .before .before .before .before .before .before .before .before .before .before .before .before .before .before .before .before .before .before .before .before .before .before .before .before .before .before .before .before .before .before .before .open-value .kept .0
+) (on-param-at t) on-param.Post
+on-param-same-length-15 t c = c .before .before .before .before .before .before .before .before .before .before .before .before .before .before .before .before .before .before .before .before .before .before .before .before .before .before .before .before .before .analyze .kept .1 .1 .1 .1 .0 ∙ c .before .before .before .before .before .before .before .before .before .before .before .before .before .before .before .before .before .before .before .before .before .before .before .before .before .before .before .before .before .before .before .before .before .before .before .before .before .before .before .before .before .open-value .kept .0
 
-walk-param-same-length-16 : (t : ℕ) → walk-param-lts.Need-same-length-16 (
+on-param-same-length-16 : (t : ℕ) → on-param-lts.Need-same-length-16 (
   number-at-reads.Asked,
   number-at-reads.Learnt,
   no-dependence-reads.Asked,
@@ -808,10 +808,10 @@ walk-param-same-length-16 : (t : ℕ) → walk-param-lts.Need-same-length-16 (
   no-spec-reads.Learnt,
   close-spec-reads.Asked,
   close-spec-reads.Learnt,
-) (walk-param-at t) walk-param.Post
-walk-param-same-length-16 t c = c .before .before .before .before .before .before .before .before .close-spec .kept .1 .1 .1 .1 .0 ∙ c .before .before .before .before .before .before .before .before .before .before .before .before .before .before .before .before .before .before .before .before .before .before .before .before .before .before .before .before .before .analyze .kept .1 .1 .1 .1 .1 .0
+) (on-param-at t) on-param.Post
+on-param-same-length-16 t c = c .before .before .before .before .before .before .before .before .close-spec .kept .1 .1 .1 .1 .0 ∙ c .before .before .before .before .before .before .before .before .before .before .before .before .before .before .before .before .before .before .before .before .before .before .before .before .before .before .before .before .before .analyze .kept .1 .1 .1 .1 .1 .0
 
-walk-param-same-length-17 : (t : ℕ) → walk-param-lts.Need-same-length-17 (
+on-param-same-length-17 : (t : ℕ) → on-param-lts.Need-same-length-17 (
   number-at-reads.Asked,
   number-at-reads.Learnt,
   no-dependence-reads.Asked,
@@ -828,10 +828,10 @@ walk-param-same-length-17 : (t : ℕ) → walk-param-lts.Need-same-length-17 (
   no-spec-reads.Learnt,
   close-spec-reads.Asked,
   close-spec-reads.Learnt,
-) (walk-param-at t) walk-param.Post
-walk-param-same-length-17 t c = c .before .before .before .before .before .before .before .before .close-spec .kept .1 .1 .0 ∙ c .before .before .before .before .before .before .before .before .before .before .before .before .before .before .before .before .before .before .before .before .before .before .before .before .before .before .before .before .before .analyze .kept .1 .1 .1 .1 .1 .1 .0
+) (on-param-at t) on-param.Post
+on-param-same-length-17 t c = c .before .before .before .before .before .before .before .before .close-spec .kept .1 .1 .0 ∙ c .before .before .before .before .before .before .before .before .before .before .before .before .before .before .before .before .before .before .before .before .before .before .before .before .before .before .before .before .before .analyze .kept .1 .1 .1 .1 .1 .1 .0
 
-walk-param-returns-4 : (t : ℕ) → walk-param-lts.Need-returns-4 (
+on-param-returns-4 : (t : ℕ) → on-param-lts.Need-returns-4 (
   number-at-reads.Asked,
   number-at-reads.Learnt,
   no-dependence-reads.Asked,
@@ -848,9 +848,9 @@ walk-param-returns-4 : (t : ℕ) → walk-param-lts.Need-returns-4 (
   no-spec-reads.Learnt,
   close-spec-reads.Asked,
   close-spec-reads.Learnt,
-) (walk-param-at t) walk-param.Post
+) (on-param-at t) on-param.Post
 unfolding naming-of stack spec-mark spec-numbers
-walk-param-returns-4 t c =
+on-param-returns-4 t c =
     let args· = c .before .before .before .before .before .before .before .before .before .before .before .before .before .before .before .before .before .before .before .before .before .before .before .before .before .before .before .before .before .before .before .before .before .before .before .before .before .before .before .before .before .before .before .before .before .before .before .before .before .before .before .before .before .args in
     let pre· = c .before .before .before .before .before .before .before .before .before .before .before .before .before .before .before .before .before .before .before .before .before .before .before .before .before .before .before .before .before .before .before .before .before .before .before .before .before .before .before .before .before .before .before .before .before .before .before .before .before .before .before .before .before .pre in
     let number-at2· = c .before .before .before .before .before .before .before .before .before .before .before .before .before .before .before .before .before .before .before .before .before .before .before .before .before .before .before .before .before .before .before .before .before .before .before .before .before .before .before .before .before .before .before .before .number-at2 in
@@ -863,7 +863,7 @@ walk-param-returns-4 t c =
     let close-spec· = c .before .before .before .before .before .before .before .before .close-spec in
     param-ended (args· .tree .now) (args· .nest) (args· .at) (args· .kept) ((pre· .1 .1) .0) (place-of (args· .here)) (number-at2· .ensures) (number-at· .ensures) (if1· .left) (open-value· .ensures .opened _ _ _ _ _ ((pre· .1 .0) .fit)) (opened· .given .1) (record { out = refl; diagnostics = refl }) (analyze· .ensures) (w· .given .1) (record { out = analyze· .kept .1 .0; diagnostics = analyze· .kept .1 .1 .0 }) (written-counted _ _ ((pre· .1 .0) .fit)) refl refl refl (close-spec· .ensures .walks _ (went-fit (analyze· .ensures) (w· .given .1)))
 
-pub walk-param-met : {M : Type 1} (t : ℕ) → walk-param-lts.Closed (
+pub on-param-met : {M : Type 1} (t : ℕ) → on-param-lts.Closed (
   number-at-reads.Asked,
   number-at-reads.Learnt,
   no-dependence-reads.Asked,
@@ -880,8 +880,8 @@ pub walk-param-met : {M : Type 1} (t : ℕ) → walk-param-lts.Closed (
   no-spec-reads.Learnt,
   close-spec-reads.Asked,
   close-spec-reads.Learnt,
-) (walk-param-at t) walk-param.Post M
-walk-param-met t = walk-param-lts.spec (
+) (on-param-at t) on-param.Post M
+on-param-met t = on-param-lts.spec (
   number-at-reads.Asked,
   number-at-reads.Learnt,
   no-dependence-reads.Asked,
@@ -899,43 +899,43 @@ walk-param-met t = walk-param-lts.spec (
   close-spec-reads.Asked,
   close-spec-reads.Learnt,
 )
-    (walk-param-at t)
-    walk-param.Post
-    (walk-param-add-number-at t)
-    (walk-param-number-at-requires t)
-    (walk-param-add-number-at-2 t)
-    (walk-param-number-at-requires-2 t)
-    (walk-param-no-dependence-requires t)
-    (walk-param-add-record-spec-init t)
-    (walk-param-record-spec-init-requires t)
-    (walk-param-same-length t)
-    (walk-param-same-length-2 t)
-    (walk-param-same-length-3 t)
-    (walk-param-same-length-4 t)
-    (walk-param-returns t)
-    (walk-param-open-value-requires t)
-    (walk-param-enum-known-opened t)
-    (walk-param-enum-told t)
-    (walk-param-no-value-requires t)
-    (walk-param-same-length-5 t)
-    (walk-param-returns-2 t)
-    (walk-param-add-analyze t)
-    (walk-param-analyze-requires t)
-    (walk-param-enum-known-w t)
-    (walk-param-enum-told-2 t)
-    (walk-param-no-spec-requires t)
-    (walk-param-same-length-6 t)
-    (walk-param-same-length-7 t)
-    (walk-param-same-length-8 t)
-    (walk-param-same-length-9 t)
-    (walk-param-same-length-10 t)
-    (walk-param-same-length-11 t)
-    (walk-param-returns-3 t)
-    (walk-param-close-spec-requires t)
-    (walk-param-same-length-12 t)
-    (walk-param-same-length-13 t)
-    (walk-param-same-length-14 t)
-    (walk-param-same-length-15 t)
-    (walk-param-same-length-16 t)
-    (walk-param-same-length-17 t)
-    (walk-param-returns-4 t)
+    (on-param-at t)
+    on-param.Post
+    (on-param-add-number-at t)
+    (on-param-number-at-requires t)
+    (on-param-add-number-at-2 t)
+    (on-param-number-at-requires-2 t)
+    (on-param-no-dependence-requires t)
+    (on-param-add-record-spec-init t)
+    (on-param-record-spec-init-requires t)
+    (on-param-same-length t)
+    (on-param-same-length-2 t)
+    (on-param-same-length-3 t)
+    (on-param-same-length-4 t)
+    (on-param-returns t)
+    (on-param-open-value-requires t)
+    (on-param-enum-known-opened t)
+    (on-param-enum-told t)
+    (on-param-no-value-requires t)
+    (on-param-same-length-5 t)
+    (on-param-returns-2 t)
+    (on-param-add-analyze t)
+    (on-param-analyze-requires t)
+    (on-param-enum-known-w t)
+    (on-param-enum-told-2 t)
+    (on-param-no-spec-requires t)
+    (on-param-same-length-6 t)
+    (on-param-same-length-7 t)
+    (on-param-same-length-8 t)
+    (on-param-same-length-9 t)
+    (on-param-same-length-10 t)
+    (on-param-same-length-11 t)
+    (on-param-returns-3 t)
+    (on-param-close-spec-requires t)
+    (on-param-same-length-12 t)
+    (on-param-same-length-13 t)
+    (on-param-same-length-14 t)
+    (on-param-same-length-15 t)
+    (on-param-same-length-16 t)
+    (on-param-same-length-17 t)
+    (on-param-returns-4 t)
