@@ -1,0 +1,25 @@
+-- What is shown of lexical scoping and the walk over an output.
+pub mod Trials
+pub mod Resolving
+pub mod Decoding
+pub mod Fitting
+pub mod Promise
+pub mod Closing
+pub mod Using
+pub mod Frames
+pub mod Names
+pub mod Keys
+pub mod Relabel
+pub mod Defining
+pub mod DefiningSteps
+pub mod Ending
+pub mod Specs
+pub mod Framed
+pub mod Walking
+pub mod WalkingLocal
+pub mod WalkingForms
+pub mod WalkingObject
+pub mod WalkingParams
+pub mod InObject
+pub mod FromBytes
+pub mod Externals
