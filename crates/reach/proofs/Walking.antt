@@ -18,7 +18,7 @@ use Rattle.rules.specs.Settling.{propagate-analysis}
 use Rattle.rules.specs.State.{Limits, AnalysisStack, with-frames, with-taint, with-out, with-sink}
 use Rattle.rules.specs.Writing.{emit, open-frame, close-frame}
 use Rattle.rules.specs.Scoping.{settle-frame}
-use Rattle.rules.specs.Walk.{Place, Naming, unnamed, bind-naming, deeper, is-empty, analyze, analyze-all, analyze-binds}
+use Rattle.rules.specs.Walk.{Place, Naming, unnamed, naming-numbers, bind-naming, deeper, is-empty, analyze, analyze-all, analyze-binds}
 use Rattle.rules.specs.Frames.{new-frame}
 use Rattle.rules.proofs.After.{After, fine, after-weaken, after-bind, after-need, after-choose}
 use Rattle.scope.specs.Scope.{Scope, Meant, bind-names, under}
@@ -56,10 +56,23 @@ step-taint st s = record {
   kept = λ e agree r. kept-from st (with-taint no-dependence st) refl refl (s .kept e agree (record { same-keys = r .same-keys; good = r .good; stacked = r .stacked }));
 }
 
+-- the name that a function's record would have is in range
+abbrev pub NamingFits : Naming → Type 0
+NamingFits naming = Numbers (naming-numbers naming)
+
+pub unnamed-fits : NamingFits unnamed
+unfolding naming-numbers Numbers
+unnamed-fits = (omega arith, (omega arith, tt))
+
+bind-fits : (f : Bool) (name : Name) (span : Span) → Numbers (name ∷ []) → NamingFits (bind-naming f name span)
+unfolding bind-naming naming-numbers Numbers
+bind-fits true name span named = (omega arith, named)
+bind-fits false name span named = unnamed-fits
+
 module _ (L : Limits) where
   -- the promise for an expression, and for binds
   abbrev pub Walks : Expr → Type 0
-  Walks e = (naming : Naming) (ks : List Key) (h : Place) (sc : Scope) (st : AnalysisStack) → After (Step ks h sc (λ v rs. reach e v rs) (read e sc) st) (analyze L e naming h st)
+  Walks e = (naming : Naming) → NamingFits naming → (ks : List Key) (h : Place) (sc : Scope) (st : AnalysisStack) → After (Step ks h sc (λ v rs. reach e v rs) (read e sc) st) (analyze L e naming h st)
 
   abbrev pub WalksBinds : Binds → Type 0
   WalksBinds bs = (base kept : ℕ) (ks : List Key) (h : Place) (sc : Scope) (st : AnalysisStack)
@@ -73,11 +86,11 @@ module _ (L : Limits) where
   unfolding check
   slot-passes k = rw (eq-eqb k k refl) refl
 
-  pub bind-walks : (p : ℕ) (name : Name) (span : Span) (f : Bool) (e : Expr) (bs : Binds) → Walks e → WalksBinds bs → WalksBinds (bind p name span f e bs)
+  pub bind-walks : (p : ℕ) (name : Name) (span : Span) (f : Bool) (e : Expr) (bs : Binds) → Numbers (name ∷ []) → Walks e → WalksBinds bs → WalksBinds (bind p name span f e bs)
   unfolding analyze-binds open-frame bind-slots reach-binds read-binds _>>=_
-  bind-walks p name span f e bs value rest base kept ks h sc st =
+  bind-walks p name span f e bs named value rest base kept ks h sc st =
       after-bind {P = λ (b : AnalysisStack). b ≡ with-frames (new-frame false (length (with-taint no-dependence st .locals)) 0 ∷ with-taint no-dependence st .frames) (with-taint no-dependence st)} _ (after-need _ 7 p _ λ _. fine refl) λ a is.
-      after-bind _ (value (bind-naming f name span) ks h sc a) λ b walked.
+      after-bind _ (value (bind-naming f name span) (bind-fits f name span named) ks h sc a) λ b walked.
       after-bind _ (using-closes L p (with-taint no-dependence st) b (subst (λ (a : AnalysisStack). Step ks h sc (λ v rs. reach e v rs) (read e sc) a b) is walked)) λ c closed.
       after-bind _ (specified L p base kept _ _ BV (λ slot. slot ∷ []) c) λ x done.
       after-weaken (rest base (x .0) ks h sc (x .1)) λ y others.

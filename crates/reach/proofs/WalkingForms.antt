@@ -23,7 +23,7 @@ use Rattle.reach.proofs.Decoding.{OutFits, fits-fields}
 use Rattle.reach.proofs.Promise.{Key, labels, Agree, Ready, Back, Kept, Step, both-back, step-none, step-then, step-by}
 use Rattle.reach.proofs.Frames.{using-closes}
 use Rattle.reach.proofs.Names.{step-errored, bad-errors, step-write, local-step, identity-step}
-use Rattle.reach.proofs.Walking.{Walks}
+use Rattle.reach.proofs.Walking.{Walks, unnamed-fits}
 
 module _ (L : Limits) where
   -- the promise for expressions, for an object's assertions and for its values
@@ -35,33 +35,33 @@ module _ (L : Limits) where
 
   pub identity-walks : (p which : ℕ) (span : Span) → Walks L (identity p which span)
   unfolding analyze reach read
-  identity-walks p which span naming ks h sc st = identity-step L ks sc p which span h st
+  identity-walks p which span naming named ks h sc st = identity-step L ks sc p which span h st
 
   pub variable-walks : (p : ℕ) (name : Name) (span : Span) → Walks L (variable p name span)
   unfolding analyze reach read
-  variable-walks p name span naming ks h sc st = local-step L ks sc p name span h st
+  variable-walks p name span naming named ks h sc st = local-step L ks sc p name span h st
 
   pub constant-walks : (p value : ℕ) → OutFits (TV, value ∷ []) → Walks L (constant p value)
   unfolding analyze reach read leaf
-  constant-walks p value fits naming ks h sc st = after-weaken (step-write L p TV (value ∷ []) st fits (step-none ks h sc st)) λ b s. step-by (λ v rs. leaf TV rs) (λ v rs. refl) refl s
+  constant-walks p value fits naming named ks h sc st = after-weaken (step-write L p TV (value ∷ []) st fits (step-none ks h sc st)) λ b s. step-by (λ v rs. leaf TV rs) (λ v rs. refl) refl s
 
   pub constants-walks : (p : ℕ) (values : List ℕ) → OutFits (AC, length values ∷ values) → Walks L (constants p values)
   unfolding analyze reach read leaf
-  constants-walks p values fits naming ks h sc st = after-weaken (step-write L p AC (length values ∷ values) st fits (step-none ks h sc st)) λ b s. step-by (λ v rs. leaf AC rs) (λ v rs. refl) refl s
+  constants-walks p values fits naming named ks h sc st = after-weaken (step-write L p AC (length values ∷ values) st fits (step-none ks h sc st)) λ b s. step-by (λ v rs. leaf AC rs) (λ v rs. refl) refl s
 
   pub import-walks : (p which : ℕ) (span : Span) (literal : Bool) (path : ℕ) → OutFits (IM, which ∷ span-numbers span ++ (path ∷ [])) → Walks L (import p which span literal path)
   unfolding analyze reach read leaf use-import choose
-  import-walks p which span true path fits naming ks h sc st = after-weaken (step-write L p IM _ st fits (step-none ks h sc st)) λ b s. step-by (λ v rs. leaf IM rs) (λ v rs. refl) refl s
-  import-walks p which span false path fits naming ks h sc st = after-weaken (bad-errors L p 6 0 span 4 st) λ b e. step-errored e
+  import-walks p which span true path fits naming named ks h sc st = after-weaken (step-write L p IM _ st fits (step-none ks h sc st)) λ b s. step-by (λ v rs. leaf IM rs) (λ v rs. refl) refl s
+  import-walks p which span false path fits naming named ks h sc st = after-weaken (bad-errors L p 6 0 span 4 st) λ b e. step-errored e
 
   pub plain-walks : (p : ℕ) (m : Mark) (ns : List ℕ) (es : Exprs) → OutFits (m, ns) → WalksAll es → Walks L (plain p m ns es)
   unfolding analyze reach read
-  plain-walks p m ns es fits all naming ks h sc st = after-bind _ (all ks h sc st) λ b walked.
+  plain-walks p m ns es fits all naming named ks h sc st = after-bind _ (all ks h sc st) λ b walked.
       after-weaken (step-write L p m ns b fits walked) λ c s. step-by (λ v rs. reach (plain p m ns es) v rs) (λ v rs. refl) refl s
 
   pub array-walks : (p : ℕ) (es : Exprs) → OutFits (AR, count-exprs es ∷ []) → WalksAll es → Walks L (array p es)
   unfolding analyze reach read open-frame
-  array-walks p es fits all naming ks h sc st =
+  array-walks p es fits all naming named ks h sc st =
       after-bind {P = λ (b : AnalysisStack). b ≡ with-frames (new-frame false (length (st .locals)) 0 ∷ st .frames) st} _ (after-need _ 7 p _ λ _. fine refl) λ a is.
       after-bind _ (all ks h sc a) λ b walked.
       after-bind _ (using-closes L p st b (subst (λ (a : AnalysisStack). Step ks h sc (λ v rs. reach-all es v rs) (read-all es sc) a b) is walked)) λ c closed.
@@ -73,12 +73,12 @@ module _ (L : Limits) where
 
   pub then-walk : (e : Expr) (es : Exprs) → Walks L e → WalksAll es → WalksAll (e then es)
   unfolding analyze-all reach-all read-all
-  then-walk e es one all ks h sc st = after-bind _ (one unnamed ks h sc st) λ b first. after-weaken (all ks h sc b) λ c second. step-then first second
+  then-walk e es one all ks h sc st = after-bind _ (one unnamed unnamed-fits ks h sc st) λ b first. after-weaken (all ks h sc b) λ c second. step-then first second
 
   pub assertions-walk : (t : Expr) (ts : Exprs) → Walks L t → WalksAll ts → WalksAssertions (t then ts)
   unfolding analyze-assertions reach-assertions read-all open-frame
   assertions-walk t ts one all ks h sc st =
       after-bind {P = λ (b : AnalysisStack). b ≡ with-frames (new-frame false (length (st .locals)) 0 ∷ st .frames) st} _ (after-need _ 7 (place-of t) _ λ _. fine refl) λ a is.
-      after-bind _ (one unnamed ks h sc a) λ b first.
+      after-bind _ (one unnamed unnamed-fits ks h sc a) λ b first.
       after-bind _ (all ks h sc b) λ c second.
       using-closes L (place-of t) st c (subst (λ (a : AnalysisStack). Step ks h sc (both-back (λ v rs. reach t v rs) (λ v rs. reach-all ts v rs)) (read t sc ++ read-all ts sc) a c) is (step-then first second))

@@ -31,7 +31,7 @@ use Rattle.reach.proofs.Defining.{Names, Scoped}
 use Rattle.reach.proofs.DefiningSteps.{Defines, bind-keys, bind-keys-names, bind-keys-slots, defines-binds}
 use Rattle.reach.proofs.Ending.{kept-emit, finishes}
 use Rattle.reach.proofs.Framed.{agree-under, frame-opened, Framed, framed}
-use Rattle.reach.proofs.Walking.{Walks, WalksBinds}
+use Rattle.reach.proofs.Walking.{NamingFits, unnamed-fits, Walks, WalksBinds}
 
 pub kept-walk : {ks : List Key} {walk : Back} {ms : List Meant} {a b : AnalysisStack} (other : Back) → ((v : View) (rs : Trail) → other v rs ≡ walk v rs) → Kept ks walk ms a b → Kept ks other ms a b
 kept-walk other same k = record {
@@ -84,7 +84,7 @@ module _ (L : Limits) where
       after-bind {P = λ (b : AnalysisStack). b ≡ frame-opened st} _ (after-need _ 7 p _ λ _. fine refl) λ a is.
       after-bind _ (defines-binds L ks (st .frames) (sc .names) bs (h .depth) [] a) λ b defines.
       after-bind _ (binds 0 0 (ks ++ bind-keys bs) h (under (bind-names bs) sc) b) λ x specs.
-      after-bind _ (body unnamed (ks ++ bind-keys bs) (deeper h) (under (bind-names bs) sc) (settle-frame propagate-analysis (x .0) (length (st .references)) (x .1))) λ d walked.
+      after-bind _ (body unnamed unnamed-fits (ks ++ bind-keys bs) (deeper h) (under (bind-names bs) sc) (settle-frame propagate-analysis (x .0) (length (st .references)) (x .1))) λ d walked.
       after-bind _ (finishes L p (x .0) (length (st .references)) d) λ c finished.
       local-emitted ks bs e p (x .0) st c
       (framed ks (bind-keys bs) 0 (bind-slots bs) st b x (settle-frame propagate-analysis (x .0) (length (st .references)) (x .1)) d c
@@ -95,5 +95,5 @@ module _ (L : Limits) where
 
   pub local-walks : (p : ℕ) (bs : Binds) (e : Expr) → WalksBinds L bs → Walks L e → Walks L (local p bs e)
   unfolding analyze reach read read-binds is-empty choose bind-names under local-back
-  local-walks p no-binds e binds body naming ks h sc st = body unnamed ks h sc st
-  local-walks p (bind q name span f v bs) e binds body naming ks h sc st = framed-local p (bind q name span f v bs) e binds body naming ks h sc st refl
+  local-walks p no-binds e binds body naming named ks h sc st = body unnamed unnamed-fits ks h sc st
+  local-walks p (bind q name span f v bs) e binds body naming named ks h sc st = framed-local p (bind q name span f v bs) e binds body naming ks h sc st refl

@@ -23,7 +23,7 @@ use Rattle.reach.proofs.Decoding.{OutFits, fits-fields}
 use Rattle.reach.proofs.Promise.{Key, Back, Step, both-back, step-none, step-then, step-by}
 use Rattle.reach.proofs.Frames.{using-closes}
 use Rattle.reach.proofs.Names.{step-write}
-use Rattle.reach.proofs.Walking.{Walks, joined}
+use Rattle.reach.proofs.Walking.{NamingFits, unnamed-fits, Walks, joined}
 
 -- how the walk over one value, or one head, stands among others
 
@@ -55,9 +55,25 @@ head-shape (some x) r = by (expect FH (x .1))
 abbrev nothing : Trail → Reached
 nothing rs = some ([], rs)
 
+-- Names of methods
+
+unfoldable pub NamingsFit : List Naming → Type 0
+NamingsFit [] = Unit {0}
+NamingsFit (naming ∷ namings) = NamingFits naming × NamingsFit namings
+
+first-fits : (namings : List Naming) → NamingsFit namings → NamingFits (first-naming namings)
+unfolding NamingsFit first-naming
+first-fits [] named = unnamed-fits
+first-fits (naming ∷ namings) named = named .0
+
+rest-fit : (namings : List Naming) → NamingsFit namings → NamingsFit (tail namings)
+unfolding NamingsFit
+rest-fit [] named = tt
+rest-fit (naming ∷ namings) named = named .1
+
 module _ (L : Limits) where
   abbrev pub WalksValues : Exprs → Type 0
-  WalksValues es = (namings : List Naming) (ks : List Key) (h : Place) (sc : Scope) (st : AnalysisStack) → After (Step ks h sc (λ v rs. reach-values es v rs) (read-all es sc) st) (analyze-values L es namings h st)
+  WalksValues es = (namings : List Naming) → NamingsFit namings → (ks : List Key) (h : Place) (sc : Scope) (st : AnalysisStack) → After (Step ks h sc (λ v rs. reach-values es v rs) (read-all es sc) st) (analyze-values L es namings h st)
 
   abbrev pub WalksHeads : Heads → Type 0
   WalksHeads hs = (ks : List Key) (h : Place) (sc : Scope) (st : AnalysisStack) → After (Step ks h sc (λ v rs. reach-heads hs v rs) (read-heads hs sc) st) (analyze-heads L hs h st)
@@ -68,16 +84,16 @@ module _ (L : Limits) where
 
   pub no-values-walk : WalksValues no-exprs
   unfolding analyze-values reach-values read-all
-  no-values-walk namings ks h sc st = fine (step-none ks h sc st)
+  no-values-walk namings named ks h sc st = fine (step-none ks h sc st)
 
   pub values-walk : (e : Expr) (es : Exprs) → Walks L e → WalksValues es → WalksValues (e then es)
   unfolding analyze-values reach-values read-all open-frame
-  values-walk e es one all namings ks h sc st =
+  values-walk e es one all namings named ks h sc st =
       after-bind {P = λ (b : AnalysisStack). b ≡ with-frames (new-frame false (length (st .locals)) 0 ∷ st .frames) st} _ (after-need _ 7 (place-of e) _ λ _. fine refl) λ a is.
-      after-bind _ (one (first-naming namings) ks h sc a) λ b walked.
+      after-bind _ (one (first-naming namings) (first-fits namings named) ks h sc a) λ b walked.
       after-bind _ (using-closes L (place-of e) st b (subst (λ (a : AnalysisStack). Step ks h sc (λ v rs. reach e v rs) (read e sc) a b) is walked)) λ c closed.
       after-bind _ (step-write L (place-of e) FV [] c value-fits closed) λ d first.
-      after-weaken (all (tail namings) ks h sc d) λ f second.
+      after-weaken (all (tail namings) (rest-fit namings named) ks h sc d) λ f second.
       step-by (λ v rs. reach-values (e then es) v rs) (λ v rs. value-shape (reach-values es v rs) v (reach e)) refl (step-then first second)
 
   pub no-heads-walk : WalksHeads no-heads
@@ -96,6 +112,6 @@ module _ (L : Limits) where
   pub computed-walks : (p : ℕ) (head : Head) (e : Expr) (hs : Heads) → OutFits (FH, 1 ∷ 0 ∷ head .plus ∷ head .visibility ∷ []) → Walks L e → WalksHeads hs → WalksHeads (computed p head e hs)
   unfolding analyze-heads reach-heads read-heads
   computed-walks p head e hs fits one all ks h sc st =
-      after-bind _ (one unnamed ks h sc st) λ a walked.
+      after-bind _ (one unnamed unnamed-fits ks h sc st) λ a walked.
       after-bind _ (step-write L p FH _ a fits walked) λ b first.
       after-weaken (all ks h sc b) λ c second. step-by (λ v rs. reach-heads (computed p head e hs) v rs) (λ v rs. head-shape (reach-heads hs v rs) (reach e v)) refl (step-then first second)

@@ -30,7 +30,7 @@ use Rattle.reach.proofs.Promise.{Key, keys, labels, Agree, Ready, Back,
 use Rattle.reach.proofs.Frames.{using-closes}
 use Rattle.reach.proofs.Using.{kept-from}
 use Rattle.reach.proofs.Specs.{OneSpec, Specs, specified, spec-kept, specs-none, specs-then, specs-by}
-use Rattle.reach.proofs.Walking.{Walks, joined, spec-shape, step-taint}
+use Rattle.reach.proofs.Walking.{Walks, unnamed-fits, joined, spec-shape, step-taint}
 
 -- how the walk over one parameter without a default stands among others
 param-shape : (o : Option (List ℕ × Trail)) (c : List ℕ → Option (Unit {0})) (r : Trail → Reached) (g : List Meant × Trail → Reached)
@@ -67,7 +67,7 @@ module _ (L : Limits) where
   unfolding analyze-params open-frame param-slots reach-params read-params _>>=_
   param-or-walks p name span e ps named value rest kept ks h sc st =
       after-bind {P = λ (b : AnalysisStack). b ≡ with-frames (new-frame false (length (with-taint no-dependence st .locals)) 0 ∷ with-taint no-dependence st .frames) (with-taint no-dependence st)} _ (after-need _ 7 p _ λ _. fine refl) λ a is.
-      after-bind _ (value unnamed ks h sc a) λ b walked.
+      after-bind _ (value unnamed unnamed-fits ks h sc a) λ b walked.
       after-bind _ (using-closes L p (with-taint no-dependence st) b (subst (λ (a : AnalysisStack). Step ks h sc (λ v rs. reach e v rs) (read e sc) a b) is walked)) λ c closed.
       after-bind _ (specified L p 0 kept _ _ PA (λ slot. name ∷ slot ∷ 1 ∷ []) c) λ x done.
       after-weaken (rest (x .0) ks h sc (x .1)) λ y others.
