@@ -27,7 +27,8 @@ use Rattle.reach.proofs.Resolving.{Grown, all-grown, grown, Stacked, bo
 use Rattle.reach.proofs.Decoding.{OutFits}
 use Rattle.reach.proofs.Promise.{Key, key, keys, labels, Agree, Ready, Back, Kept, Step, expect-first, back}
 use Rattle.reach.proofs.Frames.{emit-is, out-more, fit-more, closed-state}
-use Rattle.reach.proofs.Names.{key-at}
+use Rattle.reach.proofs.Using.{kept-from}
+use Rattle.reach.proofs.Names.{key-at, step-same}
 use Rattle.reach.proofs.Keys.{Same, same-none, same-then, same-settle, use-keeps, same-judge-all, same-references-kept, same-analysis}
 use Rattle.reach.proofs.Relabel.{defined-frame, left-state, defining-kept, label-count}
 
@@ -45,6 +46,15 @@ kept-same {ks = ks} {walk = walk} {ms = ms} {a = a} b c s k = record {
   fit = k .fit;
   walked = λ v rest l. k .walked v rest (subst (λ (fs : List ClosureFrame). Later (view-of (labels ks) fs) v) (s .same-frames) l);
 }
+
+-- and where it began with what only differs in such things
+pub step-from : {ks : List Key} {h : Place} {sc : Scope} {walk : Back} {ms : List Meant} {b : AnalysisStack} (a a′ : AnalysisStack) → Same a a′ → Step ks h sc walk ms a′ b → Step ks h sc walk ms a b
+step-from {ks = ks} {h = h} {sc = sc} a a′ s x =
+    let first : Step ks h sc (λ v rs. some ([], rs)) [] a a′ = step-same a a′ (s .same-frames) (s .same-out) (s .same-errored) (s .same-keys) in
+    record {
+      calm = λ e. first .calm (x .calm e);
+      kept = λ e agree r. kept-from a a′ (s .same-frames) (s .same-out) (x .kept e agree (first .kept (x .calm e) agree r .ready));
+    }
 
 -- and where a record is written that the walk expects
 pub kept-emit : {ks : List Key} {walk : Back} {ms : List Meant} (a b : AnalysisStack) (m : Mark) (ns : List ℕ) (with-numbers : List ℕ → Option (Unit {0})) → OutFits (m, ns) → with-numbers ns ≡ some tt
@@ -72,6 +82,10 @@ pub record Finished (b c : AnalysisStack) : Type 0 where
   pub last : AnalysisStack
   pub same : Same b last
   pub closed : Same (left-state (first-in-frame last) last) c
+
+-- a step behind the end that only differs in such things
+pub finished-same : {b c d : AnalysisStack} → Same c d → Finished b c → Finished b d
+finished-same s f = record { last = f .last; same = f .same; closed = same-then (f .closed) s }
 
 pub finished-calm : {b c : AnalysisStack} → Finished b c → c .sink .errored ≡ false → b .sink .errored ≡ false
 unfolding left-state closed-state with-frames with-locals with-out with-sink

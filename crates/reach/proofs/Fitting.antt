@@ -1,22 +1,21 @@
--- Which records of the tree stand in the output with the same fields, and that all that an expression writes can be told from its bytes. Assumes nothing.
-use Prim.Native.Nat.{ℕ, zero, suc, _+_, _≤_, _<_}
+-- Which records of the tree stand in the output with the same fields, and that the bytes tell them. Assumes nothing.
+use Prim.Native.Nat.{ℕ, zero, suc}
 use mathlib.Core.List.{List, [], _∷_}
-use mathlib.Core.Option.{Option, none, some}
+use mathlib.Core.Option.{Option, none, some, Option·some-injective}
 use mathlib.Core.Path.{_≡_, refl, sym, _∙_, subst}
-use lib.ListN.{length}
 use Rattle.rules.specs.Outcome.{choose}
-use Rattle.rules.specs.Numbers.{code, Mark, JT, ID, TV, VA, AR, OX, UN, BI, AS, LO, ER, IM, AP, IX, FN, IF, SC, OB, BV, BF, PA, AT, FH, NA, PT, LS, CS, SU, BL, AC, IY, FV, SH, DG}
+use Rattle.rules.specs.Numbers.{code, Mark, OX, UN, BI, AS, ER, AP, IX, IF, SC, AT, NA, PT}
 use Rattle.rules.specs.Records.{widths, width, fields, numbers-of, out-fields, no-tail}
-use Rattle.rules.specs.FirstWalk.{Allowed, any-expression, function-only, object-only, Child, level, holder, Groups, Form, an-identity, a-constant, a-variable, an-array, an-import, a-local, a-function, an-object, parts, rows, row-of, only}
-use Rattle.rules.specs.Range.{Numbers, RecordFits, Stands, PlainStands}
+use Rattle.rules.specs.Tree.{Heads, no-heads, fixed, computed}
+use Rattle.rules.specs.FirstWalk.{Allowed, any-expression, function-only, object-only, Child, level, holder, argument, index-part, assertion, Groups, expressions}
+use Rattle.rules.specs.FirstWalk.{Form, an-identity, a-constant, a-variable, an-array, an-import, a-local, a-function, an-object, parts, rows, value-groups}
+use Rattle.rules.specs.Range.{RecordFits, PlainStands, next-of, next-child}
+use Rattle.rules.proofs.ReadRecords.{Every, row-found}
 use Rattle.reach.specs.Decode.{out-marks, mark-among}
+use Rattle.reach.proofs.Resolving.{none≢some}
 use Rattle.reach.proofs.Decoding.{OutFits, fits-fields}
 
--- the record's own numbers are in range
-pub stands-small : (c : Child) (levels : ℕ) (m : Mark) (form : Form) (ns : List ℕ) → Stands c levels m form ns → Numbers ns
-unfolding Stands
-stands-small (level a) levels m form ns h = h .1 .numbers
-stands-small (holder mark n) levels m form ns h = absurd h
+-- Records that keep mark and fields
 
 -- a mark that keeps its fields
 pub record Keeps (m : Mark) : Type 0 where
@@ -24,125 +23,68 @@ pub record Keeps (m : Mark) : Type 0 where
   pub no-more : out-fields m .1 ≡ no-tail
   pub as-many : numbers-of m ≡ widths (out-fields m .0)
 
-Has-parts : Option (Mark × Form) → Type 0
-Has-parts none = ⊥
-Has-parts (some (m, an-identity)) = ⊥
-Has-parts (some (m, a-constant)) = ⊥
-Has-parts (some (m, a-variable)) = ⊥
-Has-parts (some (m, an-array)) = ⊥
-Has-parts (some (m, an-import)) = ⊥
-Has-parts (some (m, a-local)) = ⊥
-Has-parts (some (m, a-function)) = ⊥
-Has-parts (some (m, an-object)) = ⊥
-Has-parts (some (m, parts form)) = Unit {0}
+kept : (m : Mark) → mark-among (code m) out-marks ≡ some m → out-fields m .1 ≡ no-tail → numbers-of m ≡ widths (out-fields m .0) → Keeps m
+kept m known no-more as-many = record { known = known; no-more = no-more; as-many = as-many }
 
-keeps-parts : (a : Allowed) (m : Mark) → Has-parts (row-of (code m) (rows a)) → Keeps m
-unfolding Has-parts row-of rows code choose mark-among out-marks out-fields widths width numbers-of fields
-keeps-parts any-expression JT h = absurd h
-keeps-parts any-expression ID h = absurd h
-keeps-parts any-expression TV h = absurd h
-keeps-parts any-expression VA h = absurd h
-keeps-parts any-expression AR h = absurd h
-keeps-parts any-expression OX h = record { known = refl; no-more = refl; as-many = refl }
-keeps-parts any-expression UN h = record { known = refl; no-more = refl; as-many = refl }
-keeps-parts any-expression BI h = record { known = refl; no-more = refl; as-many = refl }
-keeps-parts any-expression AS h = record { known = refl; no-more = refl; as-many = refl }
-keeps-parts any-expression LO h = absurd h
-keeps-parts any-expression ER h = record { known = refl; no-more = refl; as-many = refl }
-keeps-parts any-expression IM h = absurd h
-keeps-parts any-expression AP h = record { known = refl; no-more = refl; as-many = refl }
-keeps-parts any-expression IX h = record { known = refl; no-more = refl; as-many = refl }
-keeps-parts any-expression FN h = absurd h
-keeps-parts any-expression IF h = record { known = refl; no-more = refl; as-many = refl }
-keeps-parts any-expression SC h = record { known = refl; no-more = refl; as-many = refl }
-keeps-parts any-expression OB h = absurd h
-keeps-parts any-expression BV h = absurd h
-keeps-parts any-expression BF h = absurd h
-keeps-parts any-expression PA h = absurd h
-keeps-parts any-expression AT h = absurd h
-keeps-parts any-expression FH h = absurd h
-keeps-parts any-expression NA h = absurd h
-keeps-parts any-expression PT h = absurd h
-keeps-parts any-expression LS h = absurd h
-keeps-parts any-expression CS h = absurd h
-keeps-parts any-expression SU h = absurd h
-keeps-parts any-expression BL h = absurd h
-keeps-parts any-expression AC h = absurd h
-keeps-parts any-expression IY h = absurd h
-keeps-parts any-expression FV h = absurd h
-keeps-parts any-expression SH h = absurd h
-keeps-parts any-expression DG h = absurd h
-keeps-parts function-only JT h = absurd h
-keeps-parts function-only ID h = absurd h
-keeps-parts function-only TV h = absurd h
-keeps-parts function-only VA h = absurd h
-keeps-parts function-only AR h = absurd h
-keeps-parts function-only OX h = absurd h
-keeps-parts function-only UN h = absurd h
-keeps-parts function-only BI h = absurd h
-keeps-parts function-only AS h = absurd h
-keeps-parts function-only LO h = absurd h
-keeps-parts function-only ER h = absurd h
-keeps-parts function-only IM h = absurd h
-keeps-parts function-only AP h = absurd h
-keeps-parts function-only IX h = absurd h
-keeps-parts function-only FN h = absurd h
-keeps-parts function-only IF h = absurd h
-keeps-parts function-only SC h = absurd h
-keeps-parts function-only OB h = absurd h
-keeps-parts function-only BV h = absurd h
-keeps-parts function-only BF h = absurd h
-keeps-parts function-only PA h = absurd h
-keeps-parts function-only AT h = absurd h
-keeps-parts function-only FH h = absurd h
-keeps-parts function-only NA h = absurd h
-keeps-parts function-only PT h = absurd h
-keeps-parts function-only LS h = absurd h
-keeps-parts function-only CS h = absurd h
-keeps-parts function-only SU h = absurd h
-keeps-parts function-only BL h = absurd h
-keeps-parts function-only AC h = absurd h
-keeps-parts function-only IY h = absurd h
-keeps-parts function-only FV h = absurd h
-keeps-parts function-only SH h = absurd h
-keeps-parts function-only DG h = absurd h
-keeps-parts object-only JT h = absurd h
-keeps-parts object-only ID h = absurd h
-keeps-parts object-only TV h = absurd h
-keeps-parts object-only VA h = absurd h
-keeps-parts object-only AR h = absurd h
-keeps-parts object-only OX h = absurd h
-keeps-parts object-only UN h = absurd h
-keeps-parts object-only BI h = absurd h
-keeps-parts object-only AS h = absurd h
-keeps-parts object-only LO h = absurd h
-keeps-parts object-only ER h = absurd h
-keeps-parts object-only IM h = absurd h
-keeps-parts object-only AP h = absurd h
-keeps-parts object-only IX h = absurd h
-keeps-parts object-only FN h = absurd h
-keeps-parts object-only IF h = absurd h
-keeps-parts object-only SC h = absurd h
-keeps-parts object-only OB h = absurd h
-keeps-parts object-only BV h = absurd h
-keeps-parts object-only BF h = absurd h
-keeps-parts object-only PA h = absurd h
-keeps-parts object-only AT h = absurd h
-keeps-parts object-only FH h = absurd h
-keeps-parts object-only NA h = absurd h
-keeps-parts object-only PT h = absurd h
-keeps-parts object-only LS h = absurd h
-keeps-parts object-only CS h = absurd h
-keeps-parts object-only SU h = absurd h
-keeps-parts object-only BL h = absurd h
-keeps-parts object-only AC h = absurd h
-keeps-parts object-only IY h = absurd h
-keeps-parts object-only FV h = absurd h
-keeps-parts object-only SH h = absurd h
-keeps-parts object-only DG h = absurd h
+unfoldable pub ChildKeeps : Child → Type 0
+ChildKeeps (level a) = Unit {0}
+ChildKeeps (holder m n) = Keeps m
 
-pub plain-fits : (a : Allowed) (m : Mark) (form : List ℕ → Groups) (ns : List ℕ) → RecordFits (rows a) m (parts form) ns → OutFits (m, ns)
-unfolding Has-parts
-plain-fits a m form ns h =
-    let k : Keeps m = keeps-parts a m (subst Has-parts (sym (h .known)) tt) in
-    fits-fields m ns (k .known) (k .no-more) (h .counted ∙ k .as-many) (h .numbers)
+unfoldable pub GroupsKeep : Groups → Type 0
+GroupsKeep [] = Unit {0}
+GroupsKeep (g ∷ gs) = ChildKeeps (g .1) × GroupsKeep gs
+
+-- a row of the table of expressions; only one with parts keeps its record
+RowKeeps : Mark × Form → Type 0
+RowKeeps (m, an-identity) = Unit {0}
+RowKeeps (m, a-constant) = Unit {0}
+RowKeeps (m, a-variable) = Unit {0}
+RowKeeps (m, an-array) = Unit {0}
+RowKeeps (m, an-import) = Unit {0}
+RowKeeps (m, a-local) = Unit {0}
+RowKeeps (m, a-function) = Unit {0}
+RowKeeps (m, an-object) = Unit {0}
+RowKeeps (m, parts form) = Keeps m × ((ns : List ℕ) → GroupsKeep (form ns))
+
+rows-keep : (a : Allowed) → Every RowKeeps (rows a)
+unfolding RowKeeps rows ChildKeeps GroupsKeep expressions argument index-part code choose mark-among out-marks out-fields widths width numbers-of fields
+rows-keep any-expression =
+    (tt, (tt, (tt, (tt, ((kept OX refl refl refl, λ ns. (tt, (tt, tt))), ((kept UN refl refl refl, λ ns. (tt, tt)), ((kept BI refl refl refl, λ ns. (tt, tt)), ((kept AS refl refl refl, λ ns. (tt, tt)), (tt, ((kept ER refl refl refl, λ ns. (tt, tt)), (tt, ((kept AP refl refl refl, λ ns. (tt, (kept NA refl refl refl, tt))), ((kept IX refl refl refl, λ ns. (tt, (kept PT refl refl refl, tt))), (tt, ((kept IF refl refl refl, λ ns. (tt, tt)), ((kept SC refl refl refl, λ ns. (tt, tt)), (tt, tt)))))))))))))))))
+rows-keep function-only = (tt, tt)
+rows-keep object-only = (tt, tt)
+
+-- the children that keeping groups want keep, and what is wanted behind them does
+pub next-keeps : (groups : Groups) (c : Child) (behind : Groups) → next-child groups ≡ some (c, behind) → GroupsKeep groups → ChildKeeps c × GroupsKeep behind
+unfolding next-child next-of GroupsKeep
+next-keeps [] c behind e h = absurd (none≢some e)
+next-keeps ((zero, d) ∷ gs) c behind e h = next-keeps gs c behind e (h .1)
+next-keeps ((suc n, d) ∷ gs) c behind e h = subst (λ (x : Child × Groups). ChildKeeps (x .0) × GroupsKeep (x .1)) (Option·some-injective _ _ e) (h .0, h)
+
+pub record Plain (m : Mark) (ns : List ℕ) (groups : Groups) : Type 0 where
+  pub fits : OutFits (m, ns)
+  pub below : GroupsKeep groups
+
+pub plain-stands : (c : Child) (levels : ℕ) (m : Mark) (ns : List ℕ) (groups : Groups) → PlainStands c levels m ns groups → ChildKeeps c → Plain m ns groups
+unfolding PlainStands ChildKeeps RowKeeps GroupsKeep expressions
+plain-stands (level a) levels m ns groups h k =
+    let row : Keeps m × ((ns : List ℕ) → GroupsKeep (h .1 ns)) = row-found RowKeeps _ (rows a) (m, parts (h .1)) (rows-keep a) (h .2 .known) .1 in
+    record { fits = fits-fields m ns (row .0 .known) (row .0 .no-more) (h .2 .counted ∙ row .0 .as-many) (h .2 .numbers); below = subst GroupsKeep (sym (h .3)) (row .1 ns) }
+plain-stands (holder mark n) levels m ns groups h k =
+    subst (λ (m : Mark). Plain m ns groups) (sym (h .0))
+    (record { fits = fits-fields mark ns (k .known) (k .no-more) (h .1 .counted ∙ k .as-many) (h .1 .numbers); below = subst GroupsKeep (sym (h .2)) (tt, tt) })
+
+-- the groups of an array, of assertions and of values
+
+pub expressions-keep : (n : ℕ) → GroupsKeep (expressions n)
+unfolding expressions GroupsKeep ChildKeeps
+expressions-keep n = (tt, tt)
+
+pub assertions-keep : (n : ℕ) → GroupsKeep ((n, assertion) ∷ [])
+unfolding assertion GroupsKeep ChildKeeps code choose mark-among out-marks out-fields widths width numbers-of fields
+assertions-keep n = (kept AT refl refl refl, tt)
+
+pub values-keep : (hs : Heads) → GroupsKeep (value-groups hs)
+unfolding value-groups GroupsKeep ChildKeeps
+values-keep no-heads = tt
+values-keep (fixed place head hs) = (tt, values-keep hs)
+values-keep (computed place head name hs) = (tt, values-keep hs)

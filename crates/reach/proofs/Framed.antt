@@ -49,6 +49,10 @@ agree-under ks new names h sc a s = record {
   dollar-inside = inside-more ks new (h .dollar-alias) (a .dollar-inside);
 }
 
+-- as the names are told
+pub agree-named : (ks new : List Key) (names : Names) (h : Place) (sc : Scope) → names-in new ≡ names → Agree ks h sc → Scoped (ks ++ new) (names-in new ++ sc .names) → Agree (ks ++ new) h (under names sc)
+agree-named ks new names h sc e a s = agree-under ks new names h sc a (subst (λ (ns : Names). Scoped (ks ++ new) (ns ++ sc .names)) e s)
+
 pub agree-deeper : (ks : List Key) (h : Place) (sc : Scope) → Agree ks h sc → Agree ks (deeper h) sc
 unfolding deeper
 agree-deeper ks h sc a = record { names = a .names; this = a .this; dollar = a .dollar; this-inside = a .this-inside; dollar-inside = a .dollar-inside }
@@ -96,6 +100,45 @@ pub record Framed (ks new : List Key) (h : Place) (sc : Scope) (slots : List Bin
   pub calm : b .sink .errored ≡ false → a .sink .errored ≡ false
   pub framed-kept : b .sink .errored ≡ false → Agree ks h sc → Ready ks a → FramedKept ks new slots walk ms kept a b
 
+-- what the walk means can be told otherwise where it stayed calm
+pub framed-means : {ks new : List Key} {h : Place} {sc : Scope} {slots : List Binding} {walk : Back} {ms ns : List Meant} {kept : ℕ} {a b : AnalysisStack} → (b .sink .errored ≡ false → Agree ks h sc → Ready ks a → ms ≡ ns)
+    → Framed ks new h sc slots walk ms kept a b → Framed ks new h sc slots walk ns kept a b
+framed-means {ks = ks} {new = new} {slots = slots} {walk = walk} {kept = kept} {a = a} {b = b} means f = record {
+  calm = f .calm;
+  framed-kept = λ q agree r. subst (λ (ms : List Meant). FramedKept ks new slots walk ms kept a b) (means q agree r) (f .framed-kept q agree r);
+}
+
+-- what is known inside a frame that stayed calm: its names are defined, its specs kept, and its body can be walked
+pub record InsideKept (ks new : List Key) (names : Names) (slots : List Binding) (specs body : Back) (ms ns : List Meant) (kept : ℕ) (a b c d : AnalysisStack) : Type 0 where
+  pub held : Holding ks (a .frames) names new b
+  pub count : kept ≡ length slots
+  pub specs-kept : Kept (ks ++ new) specs ms b c
+  pub body-kept : Kept (ks ++ new) body ns c d
+
+pub inside-kept : {h h′ : Place} {sc sc′ : Scope} {specs body : Back} {ms ns : List Meant} (ks new : List Key) (base : ℕ) (slots : List Binding) (a b : AnalysisStack) (x : ℕ × AnalysisStack) (c d : AnalysisStack)
+    → (Agree ks h sc → Ready ks a → Scoped (ks ++ new) (names-in new ++ sc .names) → Agree (ks ++ new) h′ sc′) → drop base (labels new) ≡ slots
+    → Defines ks (a .frames) (sc .names) [] new (frame-opened a) b
+    → Specs (ks ++ new) h′ sc′ base 0 slots specs ms b x
+    → Same (x .1) c
+    → Step (ks ++ new) (deeper h′) sc′ body ns c d
+    → d .sink .errored ≡ false → Agree ks h sc → Ready ks a
+    → InsideKept ks new (sc .names) slots specs body ms ns (x .0) a b c d
+unfolding frame-opened with-frames
+inside-kept {h = h} {h′ = h′} {sc = sc} {sc′ = sc′} {specs = specs} {ms = ms} ks new base slots a b x c d inside same-slots defines specs-step same body-step calm-d agree r =
+    let calm-x = sym (same .same-errored) ∙ body-step .calm calm-d in
+    let held : Holding ks (a .frames) (sc .names) new b = defines .holding (specs-step .calm calm-x) (holding-none ks h sc a agree r) in
+    let inner : Agree (ks ++ new) h′ sc′ = inside agree r (held .scoped) in
+    let ready : Ready (ks ++ new) b = ready-holding ks new (sc .names) a b r held in
+    let k = specs-step .kept-all calm-x inner ready (own-slots-from ks new (sc .names) base (a .frames) b held ∙ same-slots) in
+    let k₁ : Kept (ks ++ new) specs ms b c = kept-same (x .1) c same (k .all) in
+    let zero-first : 0 + length slots ≡ length slots = omega arith in
+    record {
+      held = held;
+      count = k .count ∙ zero-first;
+      specs-kept = k₁;
+      body-kept = body-step .kept calm-d (agree-deeper (ks ++ new) h′ sc′ inner) (k₁ .ready);
+    }
+
 pub framed : {h h′ : Place} {sc sc′ : Scope} {specs body : Back} {ms ns : List Meant} (ks new : List Key) (base : ℕ) (slots : List Binding) (a b : AnalysisStack) (x : ℕ × AnalysisStack) (c d e : AnalysisStack)
     → (Agree ks h sc → Ready ks a → Scoped (ks ++ new) (names-in new ++ sc .names) → Agree (ks ++ new) h′ sc′) → drop base (labels new) ≡ slots
     → Defines ks (a .frames) (sc .names) [] new (frame-opened a) b
@@ -105,21 +148,13 @@ pub framed : {h h′ : Place} {sc sc′ : Scope} {specs body : Back} {ms ns : Li
     → Finished d e
     → Framed ks new h sc slots (both-back specs body) (ms ++ ns) (x .0) a e
 unfolding frame-opened with-frames
-framed {h = h} {h′ = h′} {sc = sc} {sc′ = sc′} {specs = specs} {body = body} {ms = ms} {ns = ns} ks new base slots a b x c d e inside same-slots defines specs-step same body-step finished = record {
+framed ks new base slots a b x c d e inside same-slots defines specs-step same body-step finished = record {
   calm = λ q. defines .calm (specs-step .calm (sym (same .same-errored) ∙ body-step .calm (finished-calm finished q)));
   framed-kept = λ q agree r.
-      (let calm-d = finished-calm finished q in
-      let calm-x = sym (same .same-errored) ∙ body-step .calm calm-d in
-      let held : Holding ks (a .frames) (sc .names) new b = defines .holding (specs-step .calm calm-x) (holding-none ks h sc a agree r) in
-      let inner : Agree (ks ++ new) h′ sc′ = inside agree r (held .scoped) in
-      let ready : Ready (ks ++ new) b = ready-holding ks new (sc .names) a b r held in
-      let k = specs-step .kept-all calm-x inner ready (own-slots-from ks new (sc .names) base (a .frames) b held ∙ same-slots) in
-      let k₁ : Kept (ks ++ new) specs ms b c = kept-same (x .1) c same (k .all) in
-      let k₂ : Kept (ks ++ new) body ns c d = body-step .kept calm-d (agree-deeper (ks ++ new) h′ sc′ inner) (k₁ .ready) in
-      let zero-first : 0 + length slots ≡ length slots = omega arith in
+      (let k = inside-kept ks new base slots a b x c d inside same-slots defines specs-step same body-step (finished-calm finished q) agree r in
       record {
-        count = k .count ∙ zero-first;
-        few = held .few;
-        all = finished-kept ks new a b d e r (held .same-frames) (defines .same-out) (kept-then k₁ k₂) finished;
+        count = k .count;
+        few = k .held .few;
+        all = finished-kept ks new a b d e r (k .held .same-frames) (defines .same-out) (kept-then (k .specs-kept) (k .body-kept)) finished;
       });
 }

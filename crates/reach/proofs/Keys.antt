@@ -7,6 +7,7 @@ use mathlib.Core.Path.{_≡_, refl, sym, ap, ap₂, _∙_}
 use lib.ListN.{length, set, take, drop}
 use Rattle.rules.specs.Outcome.{Outcome, ok, refuse, need, choose, given}
 use Rattle.rules.specs.Numbers.{Name}
+use Rattle.rules.specs.Records.{Span}
 use Rattle.rules.specs.Locals.{LocalDefinition, local-at, with-analysis, with-used-at-depth, with-scratch-referenced, without-notes}
 use Rattle.rules.specs.Settling.{Reference, Round, Loop, propagate-analysis, propagate-use, one-round, Settled, settle, settled}
 use Rattle.rules.specs.State.{Limits, AnalysisStack, with-locals, with-rounds, with-sink, with-references, with-taint}
@@ -67,15 +68,15 @@ or-false true = refl
 or-false false = refl
 
 module _ (L : Limits) where
-  same-warning : (p c : ℕ) (name : Name) (l : LocalDefinition) (st : AnalysisStack) → After (Same st) (report L p warning c name (l .span) st)
+  pub same-warning : (p c : ℕ) (name : Name) (span : Span) (st : AnalysisStack) → After (Same st) (report L p warning c name span st)
   unfolding report with-sink is-error
-  same-warning p c name l st = after-need _ 10 p _ λ _. fine (record { same-keys = refl; same-frames = refl; same-out = refl; same-errored = or-false (st .sink .errored) })
+  same-warning p c name span st = after-need _ 10 p _ λ _. fine (record { same-keys = refl; same-frames = refl; same-out = refl; same-errored = or-false (st .sink .errored) })
 
   same-judge : (p : ℕ) (name : Name) (l : LocalDefinition) (st : AnalysisStack) → After (Same st) (judge L p name l st)
   unfolding judge
   same-judge p name l st = after-choose _ _ _
-      (λ _. after-choose _ _ _ (λ _. same-warning p 8 name l st) (λ _. same-warning p 7 name l st))
-      (λ _. after-choose _ _ _ (λ _. same-warning p 9 name l st) (λ _. fine (same-none st)))
+      (λ _. after-choose _ _ _ (λ _. same-warning p 8 name (l .span) st) (λ _. same-warning p 7 name (l .span) st))
+      (λ _. after-choose _ _ _ (λ _. same-warning p 9 name (l .span) st) (λ _. fine (same-none st)))
 
   pub same-judge-all : (p : ℕ) (ls : List LocalDefinition) (st : AnalysisStack) → After (Same st) (judge-all L p ls st)
   unfolding judge-all

@@ -106,11 +106,11 @@ found-label : (ks : List Key) (o : Option ℕ) (m : Option Binding) (id : ℕ) �
 unfolding labelled
 found-label ks o m id e d = rw e at d
 
-found-inside : (n : ℕ) (o : Option ℕ) (id : ℕ) → o ≡ some id → Inside n o → id < n
+pub found-inside : (n : ℕ) (o : Option ℕ) (id : ℕ) → o ≡ some id → Inside n o → id < n
 unfolding Inside
 found-inside n o id e d = rw e at d
 
-unchecked : (walk : Trail → Reached) (o : Option (List ℕ × Trail)) → (o >>= λ x. walk (x .1)) ≡ (o >>= λ x. some (tt {0}) >>= λ _. walk (x .1))
+pub unchecked : (walk : Trail → Reached) (o : Option (List ℕ × Trail)) → (o >>= λ x. walk (x .1)) ≡ (o >>= λ x. some (tt {0}) >>= λ _. walk (x .1))
 unfolding _>>=_
 unchecked walk none = refl
 unchecked walk (some x) = refl

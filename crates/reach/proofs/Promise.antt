@@ -86,6 +86,11 @@ pub record Step (ks : List Key) (h : Place) (sc : Scope) (walk : Back) (ms : Lis
   pub calm : b .sink .errored ≡ false → a .sink .errored ≡ false
   pub kept : b .sink .errored ≡ false → Agree ks h sc → Ready ks a → Kept ks walk ms a b
 
+-- which answer it is
+pub after-self : {A : Type 0} (o : Outcome A) → After (λ a. o ≡ ok a) o
+after-self (ok a) = fine refl
+after-self (refuse number place) = refused
+
 -- what holds under a premise holds, under it, of the answer
 pub after-under : {A : Type 0} {X : Type 0} {Q : A → Type 0} (o : Outcome A) → (X → After Q o) → After (λ a. X → Q a) o
 after-under (ok a) k = fine λ x. after-ok (k x) refl
@@ -153,20 +158,27 @@ kept-none ks st r = record {
 pub step-none : (ks : List Key) (h : Place) (sc : Scope) (st : AnalysisStack) → Step ks h sc (λ v rs. some ([], rs)) [] st st
 step-none ks h sc st = record { calm = λ e. e; kept = λ e agree r. kept-none ks st r }
 
+-- a walk that reaches the same, as far as this one gets
+abbrev pub Follows : Back → Back → Type 0
+Follows walk other = (v : View) (rs : Trail) (y : List Meant × Trail) → walk v rs ≡ some y → other v rs ≡ some y
+
+pub kept-walk : {ks : List Key} {walk : Back} {ms : List Meant} {a b : AnalysisStack} (other : Back) → Follows walk other → Kept ks walk ms a b → Kept ks other ms a b
+kept-walk {ms = ms} other follows k = record {
+  ready = k .ready;
+  grew = k .grew;
+  written = k .written;
+  out = k .out;
+  fit = k .fit;
+  walked = λ v rest l. follows v _ (ms, rest) (k .walked v rest l);
+}
+
+pub step-follows : {ks : List Key} {h : Place} {sc : Scope} {walk : Back} {ms : List Meant} {a b : AnalysisStack} (other : Back) → Follows walk other → Step ks h sc walk ms a b → Step ks h sc other ms a b
+step-follows other follows x = record { calm = x .calm; kept = λ d agree ready. kept-walk other follows (x .kept d agree ready) }
+
 -- a walk that is the same one way and the other
 pub step-by : {ks : List Key} {h : Place} {sc : Scope} {walk : Back} {ms ns : List Meant} {a b : AnalysisStack} (other : Back) → ((v : View) (rs : Trail) → other v rs ≡ walk v rs) → ms ≡ ns
     → Step ks h sc walk ms a b → Step ks h sc other ns a b
-step-by {ks = ks} {walk = walk} {ms = ms} {ns = ns} other same e x = record {
-  calm = x .calm;
-  kept = λ d agree ready. (let k = x .kept d agree ready in record {
-    ready = k .ready;
-    grew = k .grew;
-    written = k .written;
-    out = k .out;
-    fit = k .fit;
-    walked = λ v rest l. same v _ ∙ k .walked v rest l ∙ ap (λ (ms : List Meant). some (ms, rest)) e;
-  });
-}
+step-by {ks = ks} {h = h} {sc = sc} {a = a} {b = b} other same e x = subst (λ (ms : List Meant). Step ks h sc other ms a b) e (step-follows other (λ v rs y d. same v rs ∙ d) x)
 
 -- Writing a record
 

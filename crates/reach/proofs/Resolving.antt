@@ -176,7 +176,7 @@ module _ (labels : List Binding) where
     pub reads : seen (view-of (r .frames)) (r .slot) ≡ some (label-at id)
     pub small : slot-number (r .slot) < 65536
 
-  missed : (f : ClosureFrame) (id : ℕ) → holds f id ≡ false → id < f .first-local + f .n-locals → id < f .first-local
+  pub missed : (f : ClosureFrame) (id : ℕ) → holds f id ≡ false → id < f .first-local + f .n-locals → id < f .first-local
   unfolding holds
   missed f id e h = by (leb (f .first-local) id) refl (ltb id (f .first-local + f .n-locals)) refl
     where

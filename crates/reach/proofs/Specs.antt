@@ -25,7 +25,7 @@ use Rattle.reach.specs.Decode.{_>>=_}
 use Rattle.reach.specs.Reach.{View, Trail, Reached, expect, check}
 use Rattle.reach.proofs.Resolving.{Grown, Stacked, bottom, on-top}
 use Rattle.reach.proofs.Decoding.{OutFits}
-use Rattle.reach.proofs.Promise.{Key, key, keys, labels, Agree, Ready, Back, Kept, Step, kept-then, both-back, step-none}
+use Rattle.reach.proofs.Promise.{Key, key, keys, labels, Agree, Ready, Back, Kept, Step, kept-then, kept-walk, both-back, step-none}
 use Rattle.reach.proofs.Frames.{emit-is}
 use Rattle.reach.proofs.Names.{key-at}
 use Rattle.reach.proofs.Keys.{Same, same-none, same-then, same-references-kept, same-analysis}
@@ -162,13 +162,6 @@ specs-by other same s = record {
   calm = s .calm;
   kept-all = λ e agree r there. (let k = s .kept-all e agree r there in record {
     count = k .count;
-    all = record {
-      ready = k .all .ready;
-      grew = k .all .grew;
-      written = k .all .written;
-      out = k .all .out;
-      fit = k .all .fit;
-      walked = λ v rest l. same v _ ∙ k .all .walked v rest l;
-    };
+    all = kept-walk other (λ v rs y d. same v rs ∙ d) (k .all);
   });
 }

@@ -9,7 +9,7 @@ use lib.ListN.{length, getElem?, getD, set, take, drop, length-map}
 use lib.Dec.{eqb}
 use borrow.Author.Tests.{eq-eqb}
 use Rattle.rules.specs.Outcome
-use Rattle.rules.specs.Outcome.{Outcome, ok, refuse, need, choose, given}
+use Rattle.rules.specs.Outcome.{need, choose, given}
 use Rattle.rules.specs.Numbers.{Name, Record, Mark, SH, LS, CS, BL, code, record-bytes, records-bytes, same-name}
 use Rattle.rules.specs.Records.{Span, out-fields, widths, width, no-tail}
 use Rattle.rules.specs.Range.{Numbers}
@@ -20,14 +20,14 @@ use Rattle.rules.specs.State.{Limits, AnalysisStack, with-frames, with-out, wit
 use Rattle.rules.specs.Writing.{Level, error, is-error, slot-mark, slot-number, shape-numbers, emit, report, bad-place, open-frame, close-frame}
 use Rattle.rules.specs.Scoping.{touch-local, emit-slot}
 use Rattle.rules.specs.Walk.{Place, use-local}
-use Rattle.rules.proofs.After.{After, fine, refused, after-ok, after-weaken, after-bind, after-need, after-given, chosen}
+use Rattle.rules.proofs.After.{After, fine, after-ok, after-weaken, after-bind, after-need, after-given, chosen}
 use Rattle.scope.specs.Scope.{Scope, Meant, meaning}
 use Rattle.reach.specs.Decode.{_>>=_, mark-among, out-marks}
 use Rattle.reach.specs.Reach.{View, Trail, Reached, source, sources, expect, check, open-using, open-defining, slot-read, leaf}
 use Rattle.reach.proofs.Resolving.{Grown, grown, grown-refl, Stacked, on-top, Later, seen, seen-later, Sourced, no-more, Good, one-more, view-of, slots-of, taken-of, Right, resolve-right, grown-later}
 use Rattle.reach.proofs.Decoding.{OutFits, AllFit, record-one, fits-fields}
 use Rattle.reach.proofs.Closing.{Shut, shuts}
-use Rattle.reach.proofs.Promise.{Key, key, keys, labels, named, newest-key, labelled, Inside, Agree, Ready, Back, Kept, Step, after-under, step-none, step-emit}
+use Rattle.reach.proofs.Promise.{Key, key, keys, labels, named, newest-key, labelled, Inside, Agree, Ready, Back, Kept, Step, after-self, after-under, step-none, step-emit}
 
 -- what a state's walk starts from is its frames and its output
 pub kept-from : {ks : List Key} {walk : Back} {ms : List Meant} {b : AnalysisStack} (a a′ : AnalysisStack) → a′ .frames ≡ a .frames → a′ .sink .out ≡ a .sink .out → Kept ks walk ms a′ b → Kept ks walk ms a b
@@ -73,7 +73,3 @@ module _ (L : Limits) where
       walked = λ v rest l. slot-reads v p (r .slot) _ rest (seen-later _ v (r .slot) _ l (right .reads));
     });
   })
-    where
-      after-self : {A : Type 0} (o : Outcome A) → After (λ a. o ≡ ok a) o
-      after-self (ok a) = fine refl
-      after-self (refuse number place) = refused

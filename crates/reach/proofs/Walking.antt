@@ -28,7 +28,7 @@ use Rattle.reach.specs.Reach.{View, Trail, Reached, expect, check, open-
 use Rattle.reach.proofs.Decoding.{OutFits, fits-fields}
 use Rattle.reach.proofs.Promise.{Key, keys, labels, Agree, Ready, Back, Kept, Step, both-back}
 use Rattle.reach.proofs.Frames.{using-closes}
-use Rattle.reach.proofs.Using.{kept-from}
+use Rattle.reach.proofs.Ending.{step-from}
 use Rattle.reach.proofs.Specs.{OneSpec, Specs, specified, spec-kept, specs-none, specs-then, specs-by}
 
 -- what was reached before these
@@ -51,10 +51,7 @@ spec-shape (some y) c opens r g = by (c (y .0)) (opens (y .1))
 -- what the value depends on is nothing to the walk
 pub step-taint : {ks : List Key} {h : Place} {sc : Scope} {walk : Back} {ms : List Meant} {b : AnalysisStack} (st : AnalysisStack) → Step ks h sc walk ms (with-taint no-dependence st) b → Step ks h sc walk ms st b
 unfolding with-taint
-step-taint st s = record {
-  calm = s .calm;
-  kept = λ e agree r. kept-from st (with-taint no-dependence st) refl refl (s .kept e agree (record { same-keys = r .same-keys; good = r .good; stacked = r .stacked }));
-}
+step-taint st s = step-from st (with-taint no-dependence st) (record { same-keys = refl; same-frames = refl; same-out = refl; same-errored = refl }) s
 
 -- the name that a function's record would have is in range
 abbrev pub NamingFits : Naming → Type 0
