@@ -1,33 +1,9 @@
 //! One call of the library: what it is lent, and all that can be seen after it.
 
 use packed::{Answer, Lent};
+use tsilmogar::sys::{self, Table};
 
 use crate::lending::{Lending, Number};
-
-unsafe extern "C" {
-    /// Each slice is a pointer and a length; the report has nine numbers.
-    fn tsilmogar_analyze(
-        tree: *const u8,
-        tree_length: usize,
-        out: *mut u8,
-        out_length: usize,
-        diagnostics: *mut u8,
-        diagnostics_length: usize,
-        locals: *mut u32,
-        locals_length: usize,
-        frames: *mut u32,
-        frames_length: usize,
-        captures: *mut u32,
-        captures_length: usize,
-        references: *mut u32,
-        references_length: usize,
-        max_locals: u32,
-        max_frames: u32,
-        max_captures: u32,
-        max_references: u32,
-        report: *mut u64,
-    );
-}
 
 /// The answer, and what it has that no answer may have.
 #[derive(Debug)]
@@ -79,30 +55,16 @@ impl Memory {
     pub fn call(&mut self, tree: &[u8]) {
         let [max_locals, max_frames, max_captures, max_references] = self.limits;
         let [locals, frames, captures, references] = &mut self.tables;
-        // SAFETY: each part is there for its length and shared with nothing else.
-        unsafe {
-            tsilmogar_analyze(
-                tree.as_ptr(),
-                tree.len(),
-                self.out.start(),
-                self.out.length(),
-                self.diagnostics.start(),
-                self.diagnostics.length(),
-                locals.start(),
-                locals.length(),
-                frames.start(),
-                frames.length(),
-                captures.start(),
-                captures.length(),
-                references.start(),
-                references.length(),
-                max_locals,
-                max_frames,
-                max_captures,
-                max_references,
-                self.report.start(),
-            );
-        }
+        let lent = sys::Lent {
+            output: self.out.lent_mut(),
+            diagnostics: self.diagnostics.lent_mut(),
+            locals: table(locals, max_locals),
+            frames: table(frames, max_frames),
+            captures: table(captures, max_captures),
+            references: table(references, max_references),
+            report: self.report.lent_mut().try_into().expect("nine numbers"),
+        };
+        sys::analyze(tree, lent);
     }
 
     /// What stands there after a call.
@@ -129,6 +91,11 @@ impl Memory {
     fn numbers(&self) -> [u64; 9] {
         self.report.lent().try_into().expect("nine numbers")
     }
+}
+
+fn table(lending: &mut Lending<u32>, limit: u32) -> Table<'_> {
+    let numbers = lending.lent_mut();
+    Table { numbers, limit }
 }
 
 /// The bytes before the length; those past it must be 0.

@@ -40,17 +40,17 @@ impl<T: Number> Lending<T> {
         }
     }
 
-    /// Where the lent part begins.
-    pub fn start(&mut self) -> *mut T {
-        self.all[GUARD..].as_mut_ptr()
-    }
-
     pub fn length(&self) -> usize {
         self.all.len() - 2 * GUARD
     }
 
     pub fn lent(&self) -> &[T] {
         &self.all[GUARD..GUARD + self.length()]
+    }
+
+    pub fn lent_mut(&mut self) -> &mut [T] {
+        let length = self.length();
+        &mut self.all[GUARD..GUARD + length]
     }
 
     pub fn guards_stand(&self) -> bool {

@@ -1,0 +1,36 @@
+//! The stored calls (tests/README.md), and what several tests share.
+#![allow(dead_code)]
+
+#[path = "../../../../tests/oracle/vectors/src/container.rs"]
+mod container;
+
+pub use container::Vector;
+use packed::Lent;
+use tsilmogar::Limits;
+
+const STORED: &str = concat!(env!("CARGO_MANIFEST_DIR"), "/../../crates/vectors/stdin");
+
+pub const NOTHING: Limits = Limits {
+    locals: 0,
+    frames: 0,
+    captures: 0,
+    references: 0,
+    output: 0,
+    diagnostics: 0,
+};
+
+pub fn stored() -> Vec<Vector> {
+    container::unpack(&std::fs::read(STORED).expect("the stored calls"))
+}
+
+/// What a stored call was lent, where its tables fit its limits.
+pub fn limits_of(lent: &Lent) -> Limits {
+    Limits {
+        locals: lent.max_locals,
+        frames: lent.max_frames,
+        captures: lent.max_captures,
+        references: lent.max_references,
+        output: lent.out as usize,
+        diagnostics: lent.diagnostics as usize,
+    }
+}
