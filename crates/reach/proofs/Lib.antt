@@ -32,3 +32,4 @@ pub mod Root
 pub mod Everywhere
 pub mod Corollaries
 pub mod EachSlot
+pub mod Unread

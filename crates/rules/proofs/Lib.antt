@@ -4,6 +4,7 @@ pub mod WorkedCases
 pub mod Unique
 pub mod Refusals
 pub mod After
+pub mod Numbered
 pub mod Lists
 pub mod Spelling
 pub mod ReadRecords

@@ -1,13 +1,15 @@
--- What holds of refusals on every input: 13 and 14 by lengths alone, and that a refused call leaves zeros everywhere. Assumes nothing.
+-- What holds of refusals on every input: 13 and 14 by lengths alone, that a refused call leaves zeros everywhere, and which numbers there are. Assumes nothing.
 use Prim.Native.Nat.{ℕ, _<_, _≤_}
-use mathlib.Core.Bool.{Bool, true, false}
-use mathlib.Core.Path.{_≡_}
+use mathlib.Core.Bool.{Bool, true, false, false≢true}
+use mathlib.Core.Path.{_≡_, refl, subst}
 use lib.ListN.{length}
 use native.Mathlib.Nat.{sub-zero}
 use borrow.Author.Tests.{le-leb, lt-leb}
-use Rattle.rules.specs.Outcome.{Outcome, ok, refuse, _>>=_, need}
+use Rattle.rules.specs.Outcome.{Outcome, ok, refuse, is-refusal-number, _>>=_, need}
 use Rattle.rules.specs.FirstWalk.{tree-at}
+use Rattle.rules.specs.State.{AnalysisStack}
 use Rattle.rules.specs.Call.{Lent, limits-of, tables-fit, run, report-of, out-of, diagnostics-of, analyze-root, filled, zeroed, left-by, call}
+use Rattle.rules.proofs.Numbered.{Numbered, answers, refuses, numbered-bind, numbered-need, numbered-tree, numbered-root}
 
 -- "a table is shorter than 16 numbers per entry of its limit", whatever the tree is
 pub short-tables-refused : (b : Lent) → tables-fit b ≡ false → run b ≡ refuse 13 0
@@ -37,3 +39,24 @@ pub refused-leaves-zeros : (b : Lent) (number place : ℕ) → run b ≡ refuse 
     }
 unfolding call left-by report-of out-of diagnostics-of filled zeroed
 refused-leaves-zeros b number place h = rw h (simp sub-zero)
+
+-- 13 and 14, and what the first walk and the analysis give
+numbered-run : (b : Lent) → Numbered (run b)
+unfolding run
+numbered-run b = numbered-need _ _ _ _ refl (numbered-need _ _ _ _ refl (numbered-bind _ (numbered-tree (b .tree)) (numbered-root (limits-of b))))
+
+-- "Limits and refusal numbers": a refusal's number is in that table
+pub refusals-are-numbered : (b : Lent) (number place : ℕ) → run b ≡ refuse number place → is-refusal-number number ≡ true
+refusals-are-numbered b number place e = of-refuse (subst Numbered e (numbered-run b))
+  where
+    of-refuse : Numbered {A = AnalysisStack} (refuse number place) → is-refusal-number number ≡ true
+    of-refuse (refuses h) = h
+
+-- "An accepted call returns number 0", and no other call does
+pub zero-is-accepted : (b : Lent) → report-of (run b) .number ≡ 0 → (st : AnalysisStack) × (run b ≡ ok st)
+unfolding report-of
+zero-is-accepted b = of-zero (numbered-run b)
+  where
+    of-zero : {o : Outcome AnalysisStack} → Numbered o → report-of o .number ≡ 0 → (st : AnalysisStack) × (o ≡ ok st)
+    of-zero answers e = (_, refl)
+    of-zero (refuses h) e = absurd (false≢true (rw e at h))

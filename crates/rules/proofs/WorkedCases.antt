@@ -1,8 +1,8 @@
--- The worked cases, computed: every call of both tables has the whole answer that its table says. Assumes nothing.
+-- The worked cases, computed: every call of both tables, but those at the limit of nesting (crates/nested), has the whole answer that its table says. Assumes nothing.
 use mathlib.Core.List.{List, [], _∷_, map}
 use mathlib.Core.Path.{_≡_, refl}
 use Rattle.rules.specs.Cases.{Case, Answer, answered, starred, one}
-use Rattle.rules.specs.OwnCases.{own, own-nested}
+use Rattle.rules.specs.OwnCases.{own}
 use Rattle.rules.proofs.Computing.{everything}
 
 pub starred-right : map answered starred ≡ map (λ c. c .answer) starred
@@ -22,7 +22,3 @@ one-out = refl
 pub own-right : map answered own ≡ map (λ c. c .answer) own
 unfolding everything
 own-right = refl
-
-pub own-nested-right : map answered own-nested ≡ map (λ c. c .answer) own-nested
-unfolding everything
-own-nested-right = refl

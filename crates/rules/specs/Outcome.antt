@@ -1,12 +1,17 @@
 -- The user's first demand, that every call ends with a result or one numbered refusal: answers that may be refusals, and branches by name. Assumes nothing.
 use Prim.Native.Nat.{ℕ}
-use mathlib.Core.Bool.{Bool, true, false}
+use mathlib.Core.Bool.{Bool, true, false, _&&_, _||_}
 use mathlib.Core.Option.{Option, none, some}
+use lib.Dec.{leb, eqb}
 
 -- an answer, or a refusal with its number and its place
 pub data Outcome (A : Type 0) : Type 0 where
   ok : A → Outcome A
   refuse : (number place : ℕ) → Outcome A
+
+-- "Limits and refusal numbers": 1 to 14, and 17
+abbrev pub is-refusal-number : ℕ → Bool
+is-refusal-number n = leb 1 n && leb n 14 || eqb n 17
 
 -- the first refusal is the whole's
 infixl 10 _>>=_

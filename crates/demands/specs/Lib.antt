@@ -1,0 +1,2 @@
+-- What the user asked of a call.
+pub mod Demands

@@ -1,0 +1,2 @@
+-- Worked cases at the limit of nesting.
+pub mod Nested

@@ -1,0 +1,2 @@
+-- The settlings of a run.
+pub mod Settlings
