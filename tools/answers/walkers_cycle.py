@@ -263,16 +263,26 @@ params=[
  ('on-param-returns-4',f'param-ended {PA} {LEFT} {OV} {fact("opened")} {SAME} (c@analyze .ensures) {W} {LONG("analyze")} (written-counted _ _ {FIT}) refl refl refl (c@close-spec .ensures .walks _ {fitof("analyze",W)})'),
 ]
 # items
+KEPT=f'({FIT} .frames-kept, {FIT} .captures-long, omega (arith, {FIT} .locals-long, {FIT} .few-locals))'
 MK='(c@mark-at .ensures .0)'
 def marked(k): return f'(sym {MK} ∙ (c@match .{k}))'
 ITEM=f'{S} {N} {AT} {A} (sym {MK}) {H}'
-items=[
- ('on-item-on-held-requires',call(SAMELEVEL,R,f'record {{ read = {A}; marked = sym {MK}; holder = an-argument (c@match .keys1) }}')),
- ('on-item-on-held-requires-2',call(SAMELEVEL,R,f'record {{ read = {A}; marked = sym {MK}; holder = a-part (c@match .keys2) }}')),
- ('on-item-on-held-requires-3',call(SAMELEVEL,R,f'record {{ read = {A}; marked = sym {MK}; holder = an-assertion (c@match .keys3) }}')),
+# an item that is a whole expression, known by its mark: it holds nothing, so it stands where an expression may
+NOT_HELD='(λ e. omega (arith, e)) (λ e. omega (arith, e)) (λ e. omega (arith, e))'
+def alone(k): return f'(not-held {S} (limits-of (c@args .limits) [] []) {N} {AT} {A} _ {marked(k)} {NOT_HELD})'
+def atom(k,law,w): return f'item-plain {S} {N} {AT} {A} {marked(k)} {H} {NOT_HELD} ({law} {SNA} {alone(k)} unnamed {H} {marked(k)} ({w}))'
+HELD=['an-argument','a-part','an-assertion']
+items=[(f'on-item-on-held-requires'+suffix,call(SAMELEVEL,R,f'record {{ read = {A}; marked = sym {MK}; holder = {holder} (c@match .keys{key}) }}')) for suffix,holder,key in zip(['','-2','-3'],HELD,[4,5,6])]+[
+ ('on-item-analyze-identity-requires',f'((identity-size {SNA} {alone("keys1")} {marked("keys1")}, identity-kind {SNA} {alone("keys1")} {marked("keys1")}, stands {R}), {KEPT})'),
+ ('on-item-add-copy-record',OM(f'constant-size {SNA} {alone("keys2")} {marked("keys2")}')),
+ ('on-item-copy-record-requires',('CONST',f'(constant-size {SNA} {alone("keys2")} {marked("keys2")}, {marked("keys2")})')),
+ ('on-item-analyze-variable-requires',f'((variable-size {SNA} {alone("keys3")} {marked("keys3")}, omega (arith, {FIT} .locals-long, {FIT} .few-locals)), ({FIT} .frames-kept, {FIT} .captures-long))'),
  ('on-item-analyze-requires',call(SAMELEVEL,R,f'not-held {S} (limits-of (c@args .limits) [] []) {N} {AT} {A} _ (sym {MK}) (λ e. c@match .rest .0 .0 .1 e) (λ e. c@match .rest .0 .1 e) (λ e. c@match .rest .1 e)')),
- ('on-item-returns','c@on-held .ensures'),('on-item-returns-2','c@on-held2 .ensures'),('on-item-returns-3','c@on-held3 .ensures'),
- ('on-item-returns-4',f'item-plain {ITEM} (λ e. c@match .rest .0 .0 .1 e) (λ e. c@match .rest .0 .1 e) (λ e. c@match .rest .1 e) (c@analyze .ensures)'),
+ ('on-item-returns',atom('keys1','identity-returns',f'c@analyze-identity .ensures .walks _ {FIT}')),
+ ('on-item-returns-2',('CONST',atom('keys2','constant-returns',f'c@copy-record .ensures .walks {L} _ _ _ _ _ {FIT}'))),
+ ('on-item-returns-3',atom('keys3','variable-returns',f'c@analyze-variable .ensures .walks _ {FIT}')),
+ ('on-item-returns-4','c@on-held .ensures'),('on-item-returns-5','c@on-held2 .ensures'),('on-item-returns-6','c@on-held3 .ensures'),
+ ('on-item-returns-7',f'item-plain {ITEM} (λ e. c@match .rest .0 .0 .1 e) (λ e. c@match .rest .0 .1 e) (λ e. c@match .rest .1 e) (c@analyze .ensures)'),
 ]
 HL=f'{S} {N} {AT} ({A} .read) ({A} .marked) {H} ({A} .holder) (children-here {S} (c@args .mark) {AT} (c@children .ensures))'
 HG=f'{S} (limits-of (c@args .limits) [] []) {N} {AT} ({A} .read) (c@args .mark) ({A} .marked) (the-holder ({A} .holder))'
@@ -291,7 +301,6 @@ held=[
 ]
 # expressions
 EX=f'{SNA} {A} (naming-of (c@args .naming)) {H}'
-KEPT=f'({FIT} .frames-kept, {FIT} .captures-long, omega (arith, {FIT} .locals-long, {FIT} .few-locals))'
 def there(k): return f'(record {{ read = {A}; marked = {marked(k)} }})'
 exprs=[
  ('analyze-analyze-identity-requires',f'((identity-size {SNA} {A} {marked("keys1")}, identity-kind {SNA} {A} {marked("keys1")}, stands {R}), {KEPT})'),
@@ -322,7 +331,7 @@ invs+=[('on-binds-Inv-loop',f'Turn-specs (λ n p. Accepted (binds-at tree nest n
  ('on-params-Inv-loop',f'Turn-specs (λ n p. Accepted (params-at tree nest n p)) (λ n p kept L σ. run-params tree L nest n p kept (place-of here) σ) limits tree nest here {B0L} state₀ at n {BL} state p kept i'),
  ('on-values-Inv-loop',f'Turn-values limits tree nest here {B0L} state₀ heads at n {BL} state head p i')]
 CODES=['analyze-analyze-identity-requires','analyze-analyze-variable-requires','analyze-analyze-import-requires','analyze-walk-(array|local|object|plain)-requires','analyze-on-function-requires','analyze-add-copy-record','analyze-returns.*','on-item-.*']
-UNFOLD={r'on-local-(returns.*|on-binds-requires|settle-frame-requires|analyze-requires-2|finish-local-requires)':'place-of naming-of',r'on-function-(returns.*|on-params-requires|settle-frame-requires|analyze-requires|finish-function-requires)':'place-of naming-of',r'on-local-analyze-requires':'naming-of',r'on-held-.*':'naming-of',r'on-item-returns-4':'naming-of code',r'on-head-.*':'naming-of',r'on-param-.*':'naming-of',r'on-value-.*':'naming-of',r'on-bind-.*':'naming-of'}
+UNFOLD={r'on-local-(returns.*|on-binds-requires|settle-frame-requires|analyze-requires-2|finish-local-requires)':'place-of naming-of',r'on-function-(returns.*|on-params-requires|settle-frame-requires|analyze-requires|finish-function-requires)':'place-of naming-of',r'on-local-analyze-requires':'naming-of',r'on-held-.*':'naming-of',r'on-item-returns-7':'naming-of code',r'on-head-.*':'naming-of',r'on-param-.*':'naming-of',r'on-value-.*':'naming-of',r'on-bind-.*':'naming-of'}
 def unfolded(rs):
     out=[]
     for pat,txt in rs:
@@ -338,7 +347,7 @@ def coded(rs):
     for r in rs:
         pat,txt=r
         if isinstance(txt,tuple) and txt[0]=='CONST': out.append((pat,('code mark-of find-mark marks choose size-of numbers-of widths width fields',txt[1])))
-        elif isinstance(txt,str) and 'c@match' in txt: out.append((pat,('code'+(' naming-of' if pat=='on-item-returns-4' else ''),txt)))
+        elif isinstance(txt,str) and 'c@match' in txt: out.append((pat,('code'+(' naming-of' if pat=='on-item-returns-7' else ''),txt)))
         else: out.append(r)
     return out
 SLICES={'begin-local':['tree','diagnostics','locals','frames'],'begin-function':['tree','diagnostics','locals','frames'],'begin-object':['tree','diagnostics','locals','frames'],'open-frame':['frames'],'open-value':['frames'],'settle-frame':['locals'],

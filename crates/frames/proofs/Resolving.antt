@@ -13,15 +13,31 @@ use borrow.Author.Tests.{lt-ltb, le-ltb, le-leb, lt-leb}
 use Rattle.rules.specs.Outcome.{ok, refuse, _>>=_, need, choose, given}
 use Rattle.rules.specs.Frames as rules
 use Rattle.rules.specs.Writing.{slot-number}
-use Rattle.frames.specs.Meaning.{number, slot, slot-kind, slot-of, capture-at, captures-of, frame-of, frames-of}
+use Rattle.frames.specs.Meaning.{number, slot, Logged, taking, logged-at, captures-of, frame-of, frames-of}
 use Rattle.frames.specs.Kept.{KeptBelow, Kept, Owned}
-use Rattle.frames.specs.Answers.{Stored, Home, HeldBy, Resolves, ResolvesToSlot, KeptAfter, Grown, Left, CapturedFrom, Captured}
+use Rattle.frames.specs.Answers.{PutCapture, Home, HeldBy, Resolves, ResolvesToSlot, KeptAfter, Grown, Left, CapturedFrom, Captured}
+use Rattle.frames.specs.declared.CaptureSlot.{CaptureSlot}
+use Rattle.frames.specs.declared.LocalSlot.{LocalSlot}
+use Rattle.frames.specs.declared.LSlot.the-variants.{Local, Capture}
 use Rattle.frames.specs.declared.Frame.{Frame}
 use Rattle.frames.specs.declared.LSlot.{LSlot}
 use Rattle.frames.specs.declared.Held.the-variants.{At, Nothing}
 use Rattle.frames.specs.declared.Resolved.{Resolved}
 use Rattle.frames.specs.declared.Resolved.the-variants.{To, Refused}
-use Rattle.frames.proofs.Laws.{captures-none, length-mine, captures-mine, captures-other, captures-same, frames-top, frames-agree, below-or-top, eq-or-not}
+use Rattle.frames.proofs.Laws.{
+  logged-here,
+  logged-beside,
+  captures-start,
+  captures-none,
+  captures-other,
+  captures-put,
+  captures-put-other,
+  length-mine,
+  frames-top,
+  frames-agree,
+  below-or-top,
+  eq-or-not,
+}
 
 -- the definition, a case at a time
 
@@ -72,11 +88,11 @@ module _ (most p above id : ℕ) (frames : List rules.ClosureFrame) (f : rules.C
 -- where the frames define the id
 
 module _ (frames : List ℕ) (n : ℕ) (home : Frame) (is : Home frames n home) (id count : ℕ) (captures : List ℕ) where
-  held-there : (s : ℕ) → HeldBy (At s) (home .«first_local») (home .«n_locals») id → rules.holds (rules.defining (frames-of n frames count captures)) id ≡ true
+  held-there : (s : LocalSlot) → HeldBy (At s) (home .«first_local») (home .«n_locals») id → rules.holds (rules.defining (frames-of n frames count captures)) id ≡ true
   unfolding rules.holds
   held-there s h = rw (is .first count captures, is .locals count captures, le-leb (home .«first_local») id (h .0), lt-ltb id (home .«first_local» + home .«n_locals») (h .1))
 
-  held-slot : (s : ℕ) → HeldBy (At s) (home .«first_local») (home .«n_locals») id → rules.slot-in (rules.defining (frames-of n frames count captures)) id ≡ s
+  held-slot : (s : LocalSlot) → HeldBy (At s) (home .«first_local») (home .«n_locals») id → rules.slot-in (rules.defining (frames-of n frames count captures)) id ≡ s .0
   unfolding rules.slot-in
   held-slot s h = rw (is .first count captures) (sym (h .2))
 
@@ -91,9 +107,6 @@ module _ (frames : List ℕ) (n : ℕ) (home : Frame) (is : Home frames n home) 
           by′ : Dec (id < home .«first_local» + home .«n_locals») → leb (home .«first_local») id && ltb id (home .«first_local» + home .«n_locals») ≡ false
           by′ (yes lt) = absurd (h (omega arith) lt)
           by′ (no far) = rw (le-leb (home .«first_local») id (omega arith), le-ltb id (home .«first_local» + home .«n_locals») (omega arith))
-
-pub held-small : (own first n id : ℕ) → HeldBy (At own) first n id → n ≤ 65535 → own ≤ 65535
-held-small own first n id h few = omega (arith, h .0, h .1, h .2)
 
 -- what is kept of n frames, of one less
 
@@ -126,65 +139,53 @@ unchanged n frames count captures kept = record {
 }
 
 module _ (n : ℕ) (frames : List ℕ) (count : ℕ) (captures : List ℕ) (most id : ℕ) (kept : KeptBelow n frames count captures) where
-  pub resolves-none : (s : LSlot) → slot s ≡ rules.local-slot 0 → n ≡ 0 → Resolves (To s count) n frames count captures captures most id
-  unfolding frames-of rules.resolve-at
-  resolves-none s e z = record {
-    same = λ p above sum. rw (z, e);
+  pub resolves-none : n ≡ 0 → Resolves (To (Local (record { 0 = 0 })) count) n frames count captures captures most id
+  unfolding frames-of rules.resolve-at slot
+  resolves-none z = record {
+    same = λ p above sum. rw z;
     left = unchanged n frames count captures kept;
   }
 
-  pub resolves-held : (home : Frame) → Home frames n home → (own : ℕ) → HeldBy (At own) (home .«first_local») (home .«n_locals») id → 0 < n
-      → (s : LSlot) → slot s ≡ rules.local-slot own → Resolves (To s count) n frames count captures captures most id
-  resolves-held home is own h pos s e = record {
+  pub resolves-held : (home : Frame) → Home frames n home → (own : LocalSlot) → HeldBy (At own) (home .«first_local») (home .«n_locals») id → 0 < n
+      → Resolves (To (Local own) count) n frames count captures captures most id
+  unfolding slot
+  resolves-held home is own h pos = record {
     same = λ p above sum. sym (resolve-held most p above id (frames-of n frames count captures) _ _ (frames-top frames count captures n pos) (held-there frames n home is id count captures own h)
-        ∙ rw (held-slot frames n home is id count captures own h, e));
+        ∙ rw (held-slot frames n home is id count captures own h));
     left = unchanged n frames count captures kept;
   }
 
-  pub resolves-found : rules.holds (rules.defining (frames-of n frames count captures)) id ≡ false → 0 < n → (k : ℕ) → some k ≡ rules.capture-of id 0 (captures-of (n - 1) count captures)
-      → (s : LSlot) → slot s ≡ rules.capture-slot k → Resolves (To s count) n frames count captures captures most id
-  unfolding frame-of
-  resolves-found unheld pos k found s e = record {
-    same = λ p above sum. sym (resolve-found most p above id (frames-of n frames count captures) _ _ (frames-top frames count captures n pos) unheld k (sym found) ∙ rw e);
+  pub resolves-found : rules.holds (rules.defining (frames-of n frames count captures)) id ≡ false → 0 < n → (k : CaptureSlot)
+      → some (k .0) ≡ rules.capture-of id 0 (captures-of (n - 1) count captures) → Resolves (To (Capture k) count) n frames count captures captures most id
+  unfolding frame-of slot
+  resolves-found unheld pos k found = record {
+    same = λ p above sum. sym (resolve-found most p above id (frames-of n frames count captures) _ _ (frames-top frames count captures n pos) unheld (k .0) (sym found));
     left = unchanged n frames count captures kept;
   }
 
 -- a capture appended to the log
 
-slot-back : (s : rules.LSlot) → slot-of (slot-kind s) (slot-number s) ≡ s
-unfolding slot-of slot-kind slot-number
-slot-back (rules.local-slot n) = refl
-slot-back (rules.capture-slot n) = refl
+module _ (before after : List ℕ) (count : ℕ) (e : Logged) (put : PutCapture before after count e) where
+  owner-before : (i : ℕ) → i < count → logged-at after i .owner ≡ logged-at before i .owner
+  owner-before i lt = ap (λ (l : Logged). l .owner) (logged-beside before after count e put i (λ e. omega arith))
 
-module _ (before after : List ℕ) (count owner id : ℕ) (source : LSlot) (stored : Stored before after count owner id (slot-kind (slot source)) (slot-number (slot source))) where
-  as-before : (i j : ℕ) → i < count → j < 4 → number after i j ≡ number before i j
-  as-before i j lt small = stored .rest i j (λ e. omega arith) (omega arith)
-
-  appended : captures-of owner (suc count) after ≡ captures-of owner count before ++ (record { target = id; source = slot source } ∷ [])
-  unfolding capture-at
-  appended =
-      rw (captures-mine owner count after (stored .n0), captures-same owner count before after as-before, stored .n1, stored .n2, stored .n3, slot-back (slot source))
-
-  passed-by : (f : ℕ) → (f ≡ owner → ⊥) → captures-of f (suc count) after ≡ captures-of f count before
-  passed-by f ne = captures-other f count after (λ e. ne (sym e ∙ stored .n0)) ∙ captures-same f count before after as-before
-
-  kept-appended : (n : ℕ) (frames : List ℕ) → owner < n → length (captures-of owner count before) ≤ 65535 → slot-number (slot source) ≤ 65535 → 16 * suc count ≤ length before
+  kept-appended : (n : ℕ) (frames : List ℕ) → e .owner < n → length (captures-of (e .owner) count before) ≤ 65535 → slot-number (e .capture .source) ≤ 65535 → 16 * suc count ≤ length before
       → KeptBelow n frames count before → KeptBelow n frames (suc count) after
   kept-appended n frames mine few small room kept = record {
     frames-fit = kept .frames-fit;
-    captures-fit = omega (arith, stored .long);
+    captures-fit = omega (arith, put .size);
     from-within = λ f lt. omega (arith, kept .from-within f lt);
     from-rises = kept .from-rises;
     from-first = λ f i lt il o. ⊎-elim
-        (λ l. kept .from-first f i lt l (sym (as-before i 0 l (omega arith)) ∙ o))
+        (λ l. kept .from-first f i lt l (sym (owner-before i l) ∙ o))
         (λ e. omega (arith, kept .from-within f lt)) (below-or-top i count il);
     few-locals = kept .few-locals;
     few-captures = λ f lt. ⊎-elim
-        (λ e. rw e (rw appended (rw length-append (omega arith))))
-        (λ ne. rw (passed-by f ne) (kept .few-captures f lt)) (eq-or-not f owner);
+        (λ same. rw (captures-put before after count e put f same, length-append) (omega (arith, few, ap (λ (o : ℕ). length (captures-of o count before)) same)))
+        (λ ne. rw (captures-put-other before after count e put f ne) (kept .few-captures f lt)) (eq-or-not (e .owner) f);
     small-sources = λ i lt. ⊎-elim
-        (λ l. rw (as-before i 3 l (omega arith)) (kept .small-sources i l))
-        (λ e. rw e (rw (stored .n3) small)) (below-or-top i count lt);
+        (λ l. rw (logged-beside before after count e put i (λ e. omega arith)) (kept .small-sources i l))
+        (λ last. omega (arith, small, ap (λ (l : Logged). slot-number (l .capture .source)) (ap (logged-at after) last ∙ logged-here before after count e put))) (below-or-top i count lt);
   }
 
 -- what resolving beneath leaves of the frame above
@@ -201,9 +202,9 @@ kept-above n frames count count′ before after pos kept grown = record {
   small-sources = grown .kept .small-sources;
 }
   where
-    by-place : (f i : ℕ) → f < n → i < count′ → number after i 0 ≡ f → Dec (f < n - 1) → number frames f 3 ≤ i
+    by-place : (f i : ℕ) → f < n → i < count′ → logged-at after i .owner ≡ f → Dec (f < n - 1) → number frames f 3 ≤ i
     by-place f i lt il o (yes l) = grown .kept .from-first f i l il o
-    by-place f i lt il o (no ge) = let t : (i < count) × (number before i 0 ≡ f) = grown .theirs f i (omega arith) il o in kept .from-first f i lt (t .0) (t .1)
+    by-place f i lt il o (no ge) = let t : (i < count) × (logged-at before i .owner ≡ f) = grown .theirs f i (omega arith) il o in kept .from-first f i lt (t .0) (t .1)
 
     by-few : (f : ℕ) → f < n → Dec (f < n - 1) → length (captures-of f count′ after) ≤ 65536
     by-few f lt (yes l) = grown .kept .few-captures f l
@@ -242,14 +243,14 @@ module _ (n : ℕ) (frames : List ℕ) (count : ℕ) (before : List ℕ) (most i
     now-too above sum = omega (arith, above-too above sum, r .left .summed)
 
     module _ (after : List ℕ) (few : k ≤ 65535) (fit : count′ < most) (small : slot-number (slot source) ≤ 65535)
-        (stored : Stored middle after count′ (n - 1) id (slot-kind (slot source)) (slot-number (slot source))) where
+        (put : PutCapture middle after count′ (taking (n - 1) id (slot source))) where
       one-more : captures-of (n - 1) (suc count′) after ≡ captures-of (n - 1) count before ++ (taken ∷ [])
-      one-more = appended middle after count′ (n - 1) id source stored
+      one-more = captures-put middle after count′ (taking (n - 1) id (slot source)) put (n - 1) refl
           ∙ ap (λ (l : List rules.Capture). l ++ (taken ∷ [])) (r .left .others (n - 1) (omega arith))
 
       beneath-same : frames-of (n - 1) frames (suc count′) after ≡ frames-of (n - 1) frames count′ middle
       beneath-same = frames-agree (n - 1) frames frames count′ (suc count′) middle after (λ f j lt l. refl)
-          (λ f lt. passed-by middle after count′ (n - 1) id source stored f (λ e. omega arith))
+          (λ f lt. captures-put-other middle after count′ (taking (n - 1) id (slot source)) put f (λ e. omega arith))
 
       captured : frames-of n frames (suc count′) after ≡ rules.with-capture id (slot source) (frame-of frames count before (n - 1)) ∷ frames-of (n - 1) frames count′ middle
       unfolding frame-of rules.with-capture
@@ -266,23 +267,28 @@ module _ (n : ℕ) (frames : List ℕ) (count : ℕ) (before : List ℕ) (most i
 
       grown : Grown n frames count (suc count′) before after
       grown = record {
-        kept = kept-appended middle after count′ (n - 1) id source stored n frames (omega arith) (rw (r .left .others (n - 1) (omega arith)) (omega arith)) small (omega arith)
+        kept = kept-appended middle after count′ (taking (n - 1) id (slot source)) put n frames (omega arith) (rw (r .left .others (n - 1) (omega arith)) (omega arith)) small (omega arith)
             (kept-above n frames count count′ before middle pos kept (r .left));
         more = omega (arith, r .left .more);
-        others = λ f le. passed-by middle after count′ (n - 1) id source stored f (λ e. omega arith) ∙ r .left .others f (omega arith);
+        others = λ f le. captures-put-other middle after count′ (taking (n - 1) id (slot source)) put f (λ e. omega arith) ∙ r .left .others f (omega arith);
         theirs = λ f i le lt o. ⊎-elim
-            (λ l. r .left .theirs f i (omega arith) l (sym (as-before middle after count′ (n - 1) id source stored i 0 l (omega arith)) ∙ o))
-            (λ e. absurd (omega (arith, stored .n0, ap (λ (x : ℕ). number after x 0) e))) (below-or-top i count′ lt);
+            (λ l. r .left .theirs f i (omega arith) l (sym (owner-before middle after count′ (taking (n - 1) id (slot source)) put i l) ∙ o))
+            (λ last. absurd (omega (
+              arith,
+              o,
+              ap (λ (x : ℕ). logged-at after x .owner) last,
+              ap (λ (l : Logged). l .owner) (logged-here middle after count′ (taking (n - 1) id (slot source)) put),
+            ))) (below-or-top i count′ lt);
         summed = omega (arith, sum-now, sum-before, r .left .summed, length-append (captures-of (n - 1) count before) (taken ∷ []));
       }
 
     resolves-captured : (a : Resolved) (after : List ℕ) → CapturedFrom source count′ a middle after most (n - 1) k id → Resolves a n frames count before after most id
     unfolding frame-of
-    resolves-captured (To s count″) after (is, few, fit, one, small, stored) = rw one record {
-      same = λ p above sum. rw (is, counted, captured after few fit small stored)
+    resolves-captured (To s count″) after (is, few, fit, one, small, put) = rw one record {
+      same = λ p above sum. rw (is, counted, captured after few fit small put)
           (sym (resolve-captured most p above id (frames-of n frames count before) _ _ split unheld (sym missing) parent
           (sym (r .same p (above + length (captures-of (n - 1) count before)) (above-too above sum))) (omega (arith, counted)) (omega (arith, now-too above sum))));
-      left = grown after few fit small stored;
+      left = grown after few fit small put;
     }
     resolves-captured (Refused why) after (inl (big, twelve)) = record {
       same = λ p above sum. rw twelve (sym (resolve-12 most p above id (frames-of n frames count before) _ _ split unheld (sym missing) parent
@@ -303,20 +309,20 @@ module _ (n : ℕ) (frames : List ℕ) (count : ℕ) (before : List ℕ) (most i
 -- the log's length is the sum of the frames' captures
 
 module _ (frames : List ℕ) (i : ℕ) (captures : List ℕ) where
-  none-owns : (n : ℕ) → n ≤ number captures i 0 → rules.count-captures (frames-of n frames (suc i) captures) ≡ rules.count-captures (frames-of n frames i captures)
+  none-owns : (n : ℕ) → n ≤ logged-at captures i .owner → rules.count-captures (frames-of n frames (suc i) captures) ≡ rules.count-captures (frames-of n frames i captures)
   none-owns n le = ap rules.count-captures (frames-agree n frames frames i (suc i) captures captures (λ f j lt l. refl) (λ f lt. captures-other f i captures (λ e. omega arith)))
 
-  one-owns : (n : ℕ) → number captures i 0 < n → rules.count-captures (frames-of n frames (suc i) captures) ≡ suc (rules.count-captures (frames-of n frames i captures))
+  one-owns : (n : ℕ) → logged-at captures i .owner < n → rules.count-captures (frames-of n frames (suc i) captures) ≡ suc (rules.count-captures (frames-of n frames i captures))
   unfolding frames-of frame-of rules.count-captures
   one-owns zero lt = absurd (omega arith)
   one-owns (suc n) lt = ⊎-elim
       (λ l. let same : length (captures-of n (suc i) captures) ≡ length (captures-of n i captures) = ap length (captures-other n i captures (λ e. omega arith)) in omega (arith, one-owns n l))
-      (λ e. omega (arith, length-mine n i captures e, none-owns n (omega arith))) (below-or-top (number captures i 0) n lt)
+      (λ e. omega (arith, length-mine n i captures e, none-owns n (omega arith))) (below-or-top (logged-at captures i .owner) n lt)
 
 nothing-yet : (n : ℕ) (frames captures : List ℕ) → rules.count-captures (frames-of n frames 0 captures) ≡ 0
-unfolding frames-of frame-of rules.count-captures captures-of
+unfolding frames-of frame-of rules.count-captures
 nothing-yet zero frames captures = refl
-nothing-yet (suc n) frames captures = omega (arith, nothing-yet n frames captures)
+nothing-yet (suc n) frames captures = omega (arith, nothing-yet n frames captures, ap length (captures-start n captures))
 
 pub log-is-sum : (n : ℕ) (frames : List ℕ) (count : ℕ) (captures : List ℕ) → Owned n count captures → rules.count-captures (frames-of n frames count captures) ≡ count
 log-is-sum n frames zero captures owned = nothing-yet n frames captures
@@ -324,11 +330,11 @@ log-is-sum n frames (suc i) captures owned = one-owns frames i captures n (owned
 
 module _ (n : ℕ) (frames : List ℕ) (count : ℕ) (before after : List ℕ) (most id : ℕ) (kept : Kept n frames count before) where
   owned-still : (count′ : ℕ) → Grown n frames count count′ before after → Owned n count′ after
-  owned-still count′ grown i lt = by (decLt (number after i 0) n)
+  owned-still count′ grown i lt = by (decLt (logged-at after i .owner) n)
     where
-      by : Dec (number after i 0 < n) → number after i 0 < n
+      by : Dec (logged-at after i .owner < n) → logged-at after i .owner < n
       by (yes l) = l
-      by (no ge) = let t : (i < count) × (number before i 0 ≡ number after i 0) = grown .theirs (number after i 0) i (omega arith) lt refl in omega (arith, kept .owned i (t .0), t .1)
+      by (no ge) = let t : (i < count) × (logged-at before i .owner ≡ logged-at after i .owner) = grown .theirs (logged-at after i .owner) i (omega arith) lt refl in omega (arith, kept .owned i (t .0), t .1)
 
   kept-still : (r : Resolved) → Left r n frames count before after → KeptAfter r n frames after
   kept-still (To s count′) grown = record { below = grown .kept; owned = owned-still count′ grown }

@@ -10,7 +10,8 @@ use lib.Dec.{eqb}
 use Rattle.rules.specs.Outcome.{Outcome, ok, refuse}
 use Rattle.rules.specs.Frames as rules
 use Rattle.rules.specs.Writing.{slot-number}
-use Rattle.frames.specs.Meaning.{number, slot, slot-kind, captures-of, frames-of}
+use Rattle.tables.specs.Rows.{row, Put}
+use Rattle.frames.specs.Meaning.{number, slot, Logged, taking, logged-at, log-of, captures-of, frames-of}
 use Rattle.frames.specs.Kept.{KeptBelow, Kept, Owned}
 use Rattle.frames.specs.declared.Frame.{Frame}
 use Rattle.frames.specs.declared.LSlot.{LSlot}
@@ -29,8 +30,11 @@ pub record Stored (before after : List ℕ) (i a b c d : ℕ) : Type 0 where
   pub n1 : number after i 1 ≡ b
   pub n2 : number after i 2 ≡ c
   pub n3 : number after i 3 ≡ d
-  pub rest : (k j : ℕ) → (k ≡ i → ⊥) → j < 16 → number after k j ≡ number before k j
+  pub others : (k : ℕ) → (k ≡ i → ⊥) → row k after ≡ row k before
   pub long : length after ≡ length before
+
+abbrev pub PutCapture : (before after : List ℕ) → (i : ℕ) → Logged → Type 0
+PutCapture before after i e = Put log-of before after i e
 
 -- what an entry of the frames says
 pub record FrameAt (frames : List ℕ) (i : ℕ) (f : Frame) : Type 0 where
@@ -47,15 +51,15 @@ pub record Home (frames : List ℕ) (n : ℕ) (f : Frame) : Type 0 where
 
 -- an id among n from the first on, with its distance from it
 abbrev pub HeldBy : Held → (first n id : ℕ) → Type 0
-HeldBy (held-is.At s) first n id = (first ≤ id) × (id < first + n) × (s ≡ id - first)
+HeldBy (held-is.At s) first n id = (first ≤ id) × (id < first + n) × (s .0 ≡ id - first)
 HeldBy held-is.Nothing first n id = first ≤ id → id < first + n → ⊥
 
 abbrev pub found : Found → Option ℕ
-found (found-is.At k) = some k
+found (found-is.At k) = some (k .0)
 found (found-is.Nothing k) = none
 
 abbrev pub Counts : Found → ℕ → Type 0
-Counts (found-is.At k) n = k < n
+Counts (found-is.At k) n = k .0 < n
 Counts (found-is.Nothing k) n = k ≡ n
 
 -- an id looked for among a frame's captures
@@ -67,7 +71,7 @@ pub record Searched (r : Found) (captures : List ℕ) (owner count id : ℕ) : T
 abbrev pub Follows : Next → (captures : List ℕ) → (owner at count : ℕ) → Type 0
 Follows (next-is.At i s) captures owner at count =
     (at < i) × (i ≤ count)
-    × (captures-of owner i captures ≡ captures-of owner at captures ++ (record { target = number captures (i - 1) 1; source = slot s } ∷ []))
+    × (captures-of owner i captures ≡ captures-of owner at captures ++ (record { target = logged-at captures (i - 1) .capture .target; source = slot s } ∷ []))
 Follows next-is.Nothing captures owner at count = captures-of owner count captures ≡ captures-of owner at captures
 
 -- a new frame stands on the others
@@ -91,7 +95,7 @@ pub record Grown (n : ℕ) (frames : List ℕ) (count count′ : ℕ) (before af
   pub kept : KeptBelow n frames count′ after
   pub more : count ≤ count′
   pub others : (f : ℕ) → n ≤ f → captures-of f count′ after ≡ captures-of f count before
-  pub theirs : (f i : ℕ) → n ≤ f → i < count′ → number after i 0 ≡ f → (i < count) × (number before i 0 ≡ f)
+  pub theirs : (f i : ℕ) → n ≤ f → i < count′ → logged-at after i .owner ≡ f → (i < count) × (logged-at before i .owner ≡ f)
   pub summed : rules.count-captures (frames-of n frames count′ after) + count ≡ rules.count-captures (frames-of n frames count before) + count′
 
 abbrev pub Left : Resolved → (n : ℕ) → (frames : List ℕ) → (count : ℕ) → (before after : List ℕ) → Type 0
@@ -108,7 +112,7 @@ pub record Resolves (r : Resolved) (n : ℕ) (frames : List ℕ) (count : ℕ) (
 abbrev pub CapturedFrom : (source : LSlot) (count : ℕ) → Resolved → (before after : List ℕ) → (most owner k id : ℕ) → Type 0
 CapturedFrom source count (To s count′) before after most owner k id =
     (slot s ≡ rules.capture-slot k) × (k ≤ 65535) × (count < most) × (count′ ≡ suc count) × (slot-number (slot source) ≤ 65535)
-    × Stored before after count owner id (slot-kind (slot source)) (slot-number (slot source))
+    × PutCapture before after count (taking owner id (slot source))
 CapturedFrom source count (Refused why) before after most owner k id =
     ((65535 < k) × (why ≡ 12)) ⊎ ((k ≤ 65535) × (most ≤ count) × (why ≡ 8))
 

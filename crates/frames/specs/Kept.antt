@@ -3,7 +3,12 @@ use mathlib.Core.List.{List}
 use mathlib.Core.Path.{_≡_}
 use Prim.Native.Nat.{ℕ, _*_, _≤_, _<_}
 use lib.ListN.{length}
-use Rattle.frames.specs.Meaning.{number, captures-of}
+use Rattle.rules.specs.Writing.{slot-number}
+use Rattle.frames.specs.Meaning.{number, logged-at, captures-of}
+
+-- the source of an entry of the log fits sixteen bits
+abbrev pub SmallSource : (captures : List ℕ) → ℕ → Type 0
+SmallSource captures i = slot-number (logged-at captures i .capture .source) ≤ 65535
 
 -- of the first n frames, whatever stands above them: the tables hold them, a frame's captures stand from its `captures_from` on,
 -- which rises from frame to frame, and slots fit sixteen bits
@@ -12,13 +17,13 @@ pub record KeptBelow (n : ℕ) (frames : List ℕ) (count : ℕ) (captures : Lis
   pub captures-fit : 16 * count ≤ length captures
   pub from-within : (f : ℕ) → f < n → number frames f 3 ≤ count
   pub from-rises : (f g : ℕ) → f < g → g < n → number frames f 3 ≤ number frames g 3
-  pub from-first : (f i : ℕ) → f < n → i < count → number captures i 0 ≡ f → number frames f 3 ≤ i
+  pub from-first : (f i : ℕ) → f < n → i < count → logged-at captures i .owner ≡ f → number frames f 3 ≤ i
   pub few-locals : (f : ℕ) → f < n → number frames f 2 ≤ 65535
   pub few-captures : (f : ℕ) → f < n → length (captures-of f count captures) ≤ 65536
-  pub small-sources : (i : ℕ) → i < count → number captures i 3 ≤ 65535
+  pub small-sources : (i : ℕ) → i < count → SmallSource captures i
 
 abbrev pub Owned : (n count : ℕ) → (captures : List ℕ) → Type 0
-Owned n count captures = (i : ℕ) → i < count → number captures i 0 < n
+Owned n count captures = (i : ℕ) → i < count → logged-at captures i .owner < n
 
 -- of all open frames: the log has no other captures
 pub record Kept (n : ℕ) (frames : List ℕ) (count : ℕ) (captures : List ℕ) : Type 0 where

@@ -4,9 +4,10 @@ ghost use mathlib.Core.List.{[]};
 ghost use Prim.Native.Nat.{ℕ, _+_, _*_, _-_, _<_, _≤_};
 ghost use lib.ListN.{length};
 ghost use Rattle.rules.specs.Writing.{slot-number};
-ghost use Rattle.frames.specs.Meaning.{number, slot, slot-kind, slot-of, captures-of};
-ghost use Rattle.frames.specs.Kept.{KeptBelow, Kept};
-ghost use Rattle.frames.specs.Answers.{Stored, FrameAt, Home, HeldBy, Searched, Follows, Opened, Defined, Captured, Resolves, ResolvesToSlot, Closed};
+ghost use Rattle.frames.specs.Meaning.{number, slot, slot-kind, slot-of, logged, logged-at, log-at, log-of, captures-of};
+ghost use Rattle.frames.specs.Kept.{KeptBelow, Kept, SmallSource};
+ghost use Rattle.frames.specs.Answers.{Stored, FrameAt, PutCapture, Home, HeldBy, Searched, Follows, Opened, Defined, Captured, Resolves, ResolvesToSlot, Closed};
+use locals::LocalId;
 
 pub struct LocalSlot(pub u16);
 
@@ -24,15 +25,22 @@ pub struct Frame {
     pub captures_from: u32,
 }
 
-// Whether a frame defined an id, and the slot's number.
+// An entry of the log: the frame that captured, by its position, what it captured, and where the frame beneath has it.
+pub struct Capture {
+    pub owner: u32,
+    pub target: LocalId,
+    pub source: LSlot,
+}
+
+// The slot of an id, where the frame defined it.
 pub enum Held {
-    At(u32),
+    At(LocalSlot),
     Nothing,
 }
 
-// A capture's number in its frame, or how many others the frame has.
+// A capture's slot in its frame, or how many others the frame has.
 pub enum Found {
-    At(u32),
+    At(CaptureSlot),
     Nothing(u32),
 }
 
@@ -155,8 +163,9 @@ fn defining(frames: &[u32], n: u32) -> Frame
     let mut i = n;
     while 0 < i {
         i -= 1;
-        if number_at(frames, i, 0) == 1 {
-            return frame_at(frames, i);
+        let f = frame_at(frames, i);
+        if f.is_defining {
+            return f;
         }
     }
     Frame {
@@ -167,34 +176,52 @@ fn defining(frames: &[u32], n: u32) -> Frame
     }
 }
 
-// The slot's number of an id that the frame defined.
-fn resolve(home: Frame, id: u32) -> Held
-    ensures { λ r. ⌜ HeldBy r (home .«first_local») (home .«n_locals») id ⌝ }
+// The slot of an id that the frame defined.
+fn resolve(home: Frame, id: LocalId) -> Held
+    requires { ⌜ home .«n_locals» ≤ 65535 ⌝ }
+    ensures { λ r. ⌜ HeldBy r (home .«first_local») (home .«n_locals») (id .0) ⌝ }
 {
     let first = home.first_local;
     let n = home.n_locals;
-    if id < first {
+    if id.0 < first {
         return Held::Nothing;
     }
-    let own = id - first;
+    let own = id.0 - first;
     if own < n {
-        Held::At(own)
+        Held::At(LocalSlot(own as u16))
     } else {
         Held::Nothing
     }
 }
 
+// The frame that captured. A search looks at one number of an entry, so that this and the next read no other.
+fn owner_at(captures: &[u32], i: u32) -> u32
+    requires { ⌜ 16 * i + 16 ≤ length (now captures) ⌝ }
+    ensures { λ r. ⌜ r ≡ logged-at (now (captures .entry)) i .owner ⌝ }
+{
+    number_at(captures, i, 0)
+}
+
+// What was captured.
+fn target_at(captures: &[u32], i: u32) -> LocalId
+    requires { ⌜ 16 * i + 16 ≤ length (now captures) ⌝ }
+    ensures { λ r. ⌜ r .0 ≡ logged-at (now (captures .entry)) i .capture .target ⌝ }
+{
+    LocalId(number_at(captures, i, 1))
+}
+
 // The owner's capture of an id, where it has one; none of its captures stands before `from`.
-fn capture_of(captures: &[u32], from: u32, count: u32, owner: u32, id: u32) -> Found
-    requires { ⌜ (16 * count ≤ length (now captures)) × (from ≤ count) × (captures-of owner from (now captures) ≡ []) ⌝ }
-    ensures { λ r. ⌜ Searched r (now (captures .entry)) owner count id ⌝ }
+fn capture_of(captures: &[u32], from: u32, count: u32, owner: u32, id: LocalId) -> Found
+    requires { ⌜ (16 * count ≤ length (now captures)) × (from ≤ count) × (captures-of owner from (now captures) ≡ []) × (length (captures-of owner count (now captures)) ≤ 65536) ⌝ }
+    ensures { λ r. ⌜ Searched r (now (captures .entry)) owner count (id .0) ⌝ }
 {
     let mut k: u32 = 0;
     let mut i = from;
     while i < count {
-        if number_at(captures, i, 0) == owner {
-            if number_at(captures, i, 1) == id {
-                return Found::At(k);
+        if owner_at(captures, i) == owner {
+            let target = target_at(captures, i);
+            if target.0 == id.0 {
+                return Found::At(CaptureSlot(k as u16));
             }
             k += 1;
         }
@@ -208,15 +235,15 @@ pub fn n_captures(captures: &[u32], from: u32, count: u32, owner: u32) -> u32
     requires { ⌜ (16 * count ≤ length (now captures)) × (from ≤ count) × (captures-of owner from (now captures) ≡ []) ⌝ }
     ensures { λ r. ⌜ r ≡ length (captures-of owner count (now (captures .entry))) ⌝ }
 {
-    let mut k: u32 = 0;
+    let mut own: u32 = 0;
     let mut i = from;
     while i < count {
-        if number_at(captures, i, 0) == owner {
-            k += 1;
+        if owner_at(captures, i) == owner {
+            own += 1;
         }
         i += 1;
     }
-    k
+    own
 }
 
 // 0 for a local, 1 for a capture.
@@ -252,17 +279,46 @@ fn slot_of(kind: u32, own: u32) -> LSlot
     }
 }
 
+// The capture of an entry.
+pub fn capture_at(captures: &[u32], i: u32) -> Capture
+    requires { ⌜ (16 * i + 16 ≤ length (now captures)) × SmallSource (now captures) i ⌝ }
+    ensures { λ r. ⌜ ((n : ℕ) → i < n → logged r ≡ log-at (log-of n (now (captures .entry))) i) ⌝ }
+{
+    Capture {
+        owner: owner_at(captures, i),
+        target: target_at(captures, i),
+        source: slot_of(number_at(captures, i, 2), number_at(captures, i, 3)),
+    }
+}
+
+// A capture into an entry.
+pub fn put_capture(captures: &mut [u32], i: u32, c: Capture)
+    requires { ⌜ 16 * i + 16 ≤ length (now captures) ⌝ }
+    ensures at { λ _. ⌜ PutCapture (now (captures .entry)) (now (captures .exit)) i (logged c) ⌝ }
+    ensures small { λ _. ⌜ slot-number (slot (c .source)) ≤ 65535 ⌝ }
+{
+    let source = c.source;
+    put_entry(
+        captures,
+        i,
+        c.owner,
+        c.target.0,
+        slot_kind(source),
+        slot_number(source),
+    );
+}
+
 // The owner, which has k captures, captures an id too, from where the frame beneath has it.
-fn capture(
+fn add_capture(
     captures: &mut [u32],
     most: u32,
     owner: u32,
     k: u32,
-    id: u32,
+    id: LocalId,
     parent: Resolved,
 ) -> Resolved
     requires { ⌜ 16 * most ≤ length (now captures) ⌝ }
-    ensures { λ r. ⌜ Captured parent r (now (captures .entry)) (now (captures .exit)) most owner k id ⌝ }
+    ensures { λ r. ⌜ Captured parent r (now (captures .entry)) (now (captures .exit)) most owner k (id .0) ⌝ }
 {
     let Resolved::To(source, count) = parent else {
         return parent;
@@ -273,15 +329,17 @@ fn capture(
     if most <= count {
         return Resolved::Refused(8);
     }
-    put_entry(
+    let target = id;
+    put_capture(
         captures,
         count,
-        owner,
-        id,
-        slot_kind(source),
-        slot_number(source),
+        Capture {
+            owner,
+            target,
+            source,
+        },
     );
-    Resolved::To(slot_of(1, k), count + 1)
+    Resolved::To(LSlot::Capture(CaptureSlot(k as u16)), count + 1)
 }
 
 // An id resolved in the top of the first n frames.
@@ -291,25 +349,26 @@ fn resolve_at(
     n: u32,
     count: u32,
     most: u32,
-    id: u32,
+    id: LocalId,
 ) -> Resolved
     requires { ⌜ (KeptBelow n (now frames) count (now captures)) × (16 * most ≤ length (now captures)) ⌝ }
-    ensures { λ r. ⌜ Resolves r n (now (frames .entry)) count (now (captures .entry)) (now (captures .exit)) most id ⌝ }
+    ensures { λ r. ⌜ Resolves r n (now (frames .entry)) count (now (captures .entry)) (now (captures .exit)) most (id .0) ⌝ }
 {
     if n == 0 {
-        return Resolved::To(slot_of(0, 0), count);
+        return Resolved::To(LSlot::Local(LocalSlot(0)), count);
     }
     let held = resolve(defining(frames, n), id);
-    if let Held::At(own) = held {
-        return Resolved::To(slot_of(0, own), count);
+    if let Held::At(slot) = held {
+        return Resolved::To(LSlot::Local(slot), count);
     }
     let idx = n - 1;
-    let found = capture_of(captures, number_at(frames, idx, 3), count, idx, id);
+    let f = frame_at(frames, idx);
+    let found = capture_of(captures, f.captures_from, count, idx, id);
     match found {
-        Found::At(k) => Resolved::To(slot_of(1, k), count),
+        Found::At(slot) => Resolved::To(LSlot::Capture(slot), count),
         Found::Nothing(k) => {
             let parent = resolve_at(frames, captures, idx, count, most, id);
-            capture(captures, most, idx, k, id, parent)
+            add_capture(captures, most, idx, k, id, parent)
         }
     }
 }
@@ -321,10 +380,10 @@ pub fn resolve_to_slot(
     n: u32,
     count: u32,
     most: u32,
-    id: u32,
+    id: LocalId,
 ) -> Resolved
     requires { ⌜ (Kept n (now frames) count (now captures)) × (16 * most ≤ length (now captures)) ⌝ }
-    ensures { λ r. ⌜ ResolvesToSlot r n (now (frames .entry)) count (now (captures .entry)) (now (captures .exit)) most id ⌝ }
+    ensures { λ r. ⌜ ResolvesToSlot r n (now (frames .entry)) count (now (captures .entry)) (now (captures .exit)) most (id .0) ⌝ }
 {
     resolve_at(frames, captures, n, count, most, id)
 }
@@ -335,16 +394,13 @@ pub fn close_frame(frames: &[u32], captures: &mut [u32], n: u32, count: u32) -> 
     ensures { λ r. ⌜ Closed n (now (frames .entry)) count (now (captures .entry)) r (now (captures .exit)) ⌝ }
 {
     let top = n - 1;
-    let from = number_at(frames, top, 3);
+    let f = frame_at(frames, top);
+    let from = f.captures_from;
     let mut to = from;
     let mut i = from;
     while i < count {
-        let owner = number_at(captures, i, 0);
-        if owner != top {
-            let target = number_at(captures, i, 1);
-            let kind = number_at(captures, i, 2);
-            let source = number_at(captures, i, 3);
-            put_entry(captures, to, owner, target, kind, source);
+        if owner_at(captures, i) != top {
+            put_capture(captures, to, capture_at(captures, i));
             to += 1;
         }
         i += 1;
@@ -354,13 +410,14 @@ pub fn close_frame(frames: &[u32], captures: &mut [u32], n: u32, count: u32) -> 
 
 // The owner's next capture in the log from `at` on.
 pub fn next_capture(captures: &[u32], at: u32, count: u32, owner: u32) -> Next
-    requires { ⌜ (16 * count ≤ length (now captures)) × (at ≤ count) × ((i : ℕ) → i < count → number (now captures) i 3 ≤ 65535) ⌝ }
+    requires { ⌜ (16 * count ≤ length (now captures)) × (at ≤ count) × ((i : ℕ) → i < count → SmallSource (now captures) i) ⌝ }
     ensures { λ r. ⌜ Follows r (now (captures .entry)) owner at count ⌝ }
 {
     let mut i = at;
     while i < count {
-        if number_at(captures, i, 0) == owner {
-            let source = slot_of(number_at(captures, i, 2), number_at(captures, i, 3));
+        if owner_at(captures, i) == owner {
+            let c = capture_at(captures, i);
+            let source = c.source;
             return Next::At(i + 1, source);
         }
         i += 1;

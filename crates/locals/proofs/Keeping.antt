@@ -1,21 +1,20 @@
 -- Laws of notes, of references and of keeping the noted ones. Assumes nothing.
 use Prim.Native.Nat.{ℕ, suc, _+_, _*_, _≤_, _<_}
 use mathlib.Core.Bool.{Bool, true, false}
-use mathlib.Core.List.{List, [], _∷_, _++_, map, map-append, append-nil}
+use mathlib.Core.List.{List, [], _∷_, _++_, map, append-nil}
 use mathlib.Core.Path.{_≡_, refl, sym, ap, _∙_}
-use native.Mathlib.Decide.{decLt}
 use native.Mathlib.Numerals.{add-one}
 use native.Mathlib.Omega.{arith}
-use lib.ListN.{length, getD, take, drop, set, length-append, length-set, length-map, drop-of-length-le}
+use lib.ListN.{length, getD, take, drop, set, length-append, length-set, drop-of-length-le}
 use lib.Seq.{append-snoc, drop-cons, drop-set-lt, take-suc, take-suc-set, take-all, getD-set-same, getD-set-other}
 use Rattle.rules.specs.Outcome.{choose}
 use Rattle.rules.specs.Numbers.{is-set}
 use Rattle.rules.specs.Locals.{LocalDefinition, local-at, no-local, with-scratch-referenced, noted, without-notes}
 use Rattle.rules.specs.Settling.{Reference}
-use Rattle.tables.specs.Rows.{row, rows}
-use Rattle.tables.proofs.Laws.{length-rows, row-at, row-set, row-other, row-later, rows-past}
-use Rattle.locals.specs.Meaning.{local-of-row, locals-of, reference, reference-of-row, references-of}
-use Rattle.locals.specs.Tables.{PutLocal, with-noted, cleared, AllKept}
+use Rattle.tables.specs.Rows.{row}
+use Rattle.tables.proofs.Laws.{row-at, row-set, row-beside, length-entries, entries-at, put-stored, put-behind}
+use Rattle.locals.specs.Meaning.{local-of-row, locals-of, reference, reference-of-row, references-of, reference-at}
+use Rattle.locals.specs.Tables.{PutLocal, PutReference, with-noted, cleared, AllKept}
 use Rattle.locals.proofs.Laws.{set-not-zero, length-locals, locals-at, local-stored}
 
 -- Notes
@@ -39,12 +38,8 @@ cleared-row (a ∷ b ∷ c ∷ d ∷ e ∷ f ∷ g ∷ h ∷ r) = refl
 
 note-cleared : (k : ℕ) (t : List ℕ) → PutLocal t (set t (16 * k + 7) 0) k (with-scratch-referenced false (local-of-row (row k t)))
 note-cleared k t =
-    local-stored k t (set t (16 * k + 7) 0) (λ i differs. by i differs (decLt i k)) (with-scratch-referenced false (local-of-row (row k t))) (length-set t (16 * k + 7) 0)
-    (ap local-of-row (row-set k 7 0 t (omega arith)) ∙ cleared-row (row k t))
-  where
-    by : (i : ℕ) → (i ≡ k → ⊥) → Dec (i < k) → row i (set t (16 * k + 7) 0) ≡ row i t
-    by i differs (yes before) = row-other i k 7 0 t (omega arith) before
-    by i differs (no behind) = row-later i k 7 0 t (omega arith) (omega arith)
+    local-stored k t (set t (16 * k + 7) 0) (λ i differs. row-beside i k 7 0 t (omega arith) differs) (with-scratch-referenced false (local-of-row (row k t)))
+    (length-set t (16 * k + 7) 0) (ap local-of-row (row-set k 7 0 t (omega arith)) ∙ cleared-row (row k t))
 
 -- a local without a note
 unnoted : (l : LocalDefinition) → l .scratch-referenced ≡ false → with-scratch-referenced false l ≡ l
@@ -55,24 +50,39 @@ unnoted l e = ap (λ (b : Bool). with-scratch-referenced b l) (sym e)
 
 pub length-references : (n : ℕ) (t : List ℕ) → length (references-of n t) ≡ n
 unfolding references-of
-length-references n t = length-map (rows n t) reference-of-row ∙ length-rows n t
+length-references n t = length-entries reference-of-row n t
 
--- two numbers stored behind the first k entries
-reference-put : (k user used : ℕ) (t : List ℕ) → 16 * k + 16 ≤ length t
-    → references-of (k + 1) (set (set t (16 * k) user) (16 * k + 1) used) ≡ references-of k t ++ (reference user used ∷ [])
-unfolding references-of reference-of-row rows
+pub references-at : (n k : ℕ) (t : List ℕ) → k < n → reference-at (references-of n t) k ≡ reference-of-row (row k t)
+unfolding reference-at references-of
+references-at n k t h = entries-at reference-of-row n k t (reference 0 0) h
+
+-- the two numbers of an entry
+pub reference-read : (n k : ℕ) (t : List ℕ) → k < n → reference (getD t (16 * k) 0) (getD t (16 * k + 1) 0) ≡ reference-at (references-of n t) k
+unfolding reference-of-row
+reference-read n k t h =
+    let at : 16 * k + 0 ≡ 16 * k = omega arith in
+    sym (references-at n k t h ∙ rw (row-at k 0 t (omega arith), row-at k 1 t (omega arith), at))
+
+pub reference-put : (k user used : ℕ) (t : List ℕ) → 16 * k + 16 ≤ length t → PutReference t (set (set t (16 * k) user) (16 * k + 1) used) k (reference user used)
+unfolding references-of reference-of-row
 reference-put k user used t inside =
     let u = set t (16 * k) user in
     let v = set u (16 * k + 1) used in
     let at : 16 * k ≡ 16 * k + 0 = omega arith in
-    let before : rows k v ≡ rows k t = rows-past k k 1 used u (omega arith) (omega arith) ∙ rw at (rows-past k k 0 user t (omega arith) (omega arith)) in
     let first : getD (row k v) 0 0 ≡ user =
     row-at k 0 v (omega arith)
     ∙ getD-set-other u (16 * k + 1) (16 * k + 0) used 0 (λ e. omega arith)
     ∙ ap (λ (i : ℕ). getD u i 0) (sym at)
     ∙ getD-set-same t (16 * k) user 0 (omega arith) in
     let second : getD (row k v) 1 0 ≡ used = row-at k 1 v (omega arith) ∙ getD-set-same u (16 * k + 1) used 0 (omega (arith, length-set t (16 * k) user)) in
-    rw (add-one k, map-append reference-of-row (rows k v) (row k v ∷ []), before, first, second)
+    put-stored reference-of-row references-of (λ n t. refl) k t v
+    (λ i differs. row-beside i k 1 used u (omega arith) differs ∙ ap (λ (m : ℕ). row i (set t m user)) at ∙ row-beside i k 0 user t (omega arith) differs) (reference user used)
+    (length-set u (16 * k + 1) used ∙ length-set t (16 * k) user) (rw (first, second))
+
+-- one more behind the first k
+reference-added : (k : ℕ) (t u : List ℕ) (r : Reference) → PutReference t u k r → references-of (k + 1) u ≡ references-of k t ++ (r ∷ [])
+unfolding references-of
+reference-added k t u r put = put-behind reference-of-row references-of (λ n t. refl) k t u r put
 
 -- One local further
 
@@ -172,10 +182,10 @@ module _ {locals references : List ℕ} {user first total kept limit : ℕ} {t u
       set-here : local-at (locals-of total t) k .scratch-referenced ≡ true
       set-here = note-here ∙ set-not-zero (getD t (16 * k + 7) 0) noted
 
-      pub keeping-kept : 16 * limit ≤ length u → count < limit
-          → Keeping locals references user first total kept limit (set t (16 * k + 7) 0) (set (set u (16 * count) user) (16 * count + 1) k) (count + 1) (k + 1)
-      keeping-kept long room =
-          let added = reference-put count user k u (omega arith) in
+      pub keeping-kept : {u′ : List ℕ} → PutReference u u′ count (reference user k) → count < limit
+          → Keeping locals references user first total kept limit (set t (16 * k + 7) 0) u′ (count + 1) (k + 1)
+      keeping-kept {u′} stored room =
+          let added = reference-added count u u′ (reference user k) stored in
           let put = note-cleared k t in
           let after : locals-of total (set t (16 * k + 7) 0) ≡ set (locals-of total t) k (with-scratch-referenced false (local-at (locals-of total t) k)) =
           put .held total more ∙ ap (λ l. set (locals-of total t) k (with-scratch-referenced false l)) (sym (locals-at total k t more)) in
@@ -183,7 +193,7 @@ module _ {locals references : List ℕ} {user first total kept limit : ℕ} {t u
             reached = omega arith;
             fits = omega arith;
             locals-size = put .size ∙ at .locals-size;
-            references-size = length-set (set u (16 * count) user) (16 * count + 1) k ∙ length-set u (16 * count) user ∙ at .references-size;
+            references-size = stored .size ∙ at .references-size;
             same-kept = rw (added, add-one k, after) (with-noted-kept user k (locals-of total t) inside (references-of count u) set-here ∙ at .same-kept);
             same-cleared = rw (add-one k, after) (cleared-kept user k (locals-of total t) inside ∙ at .same-cleared);
           }

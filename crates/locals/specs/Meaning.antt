@@ -7,10 +7,11 @@ use lib.ListN.{getD}
 use Rattle.rules.specs.Numbers.{Name, bit, is-set}
 use Rattle.rules.specs.Tree.{Binding, at-record, external}
 use Rattle.rules.specs.Locals as rules
-use Rattle.rules.specs.Settling.{Reference}
+use Rattle.rules.specs.Settling as settling
 use Rattle.depths.specs.Meaning.{result}
 use Rattle.tables.specs.Rows.{rows}
 use Rattle.locals.specs.declared.LocalDefinition.{LocalDefinition}
+use Rattle.locals.specs.declared.Reference.{Reference}
 use Rattle.locals.specs.declared.Found.{Found}
 use Rattle.locals.specs.declared.Found.the-variants.{At, Nothing}
 
@@ -82,13 +83,19 @@ unfoldable pub found : Found → Option ℕ
 found (At id) = some (id .0)
 found Nothing = none
 
-abbrev pub reference : (user used : ℕ) → Reference
+abbrev pub reference : (user used : ℕ) → settling.Reference
 reference user used = record { user = user; used = used }
 
--- the reference of an entry's numbers
-unfoldable pub reference-of-row : List ℕ → Reference
+abbrev pub refers : Reference → settling.Reference
+refers r = reference (r .user .0) (r .used .0)
+
+-- the reference of an entry's numbers; the other fourteen are unused
+unfoldable pub reference-of-row : List ℕ → settling.Reference
 reference-of-row r = reference (getD r 0 0) (getD r 1 0)
 
 -- the references of the first n entries, the oldest first
-unfoldable pub references-of : ℕ → List ℕ → List Reference
+unfoldable pub references-of : ℕ → List ℕ → List settling.Reference
 references-of n t = map reference-of-row (rows n t)
+
+unfoldable pub reference-at : List settling.Reference → ℕ → settling.Reference
+reference-at refs i = getD refs i (reference 0 0)

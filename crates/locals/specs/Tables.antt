@@ -1,21 +1,20 @@
--- What storing a local, and keeping a spec's references, leave of the tables. Assumes nothing.
+-- What storing a local or a reference, and keeping a spec's references, leave of the tables. Assumes nothing.
 use Prim.Native.Nat.{ℕ, _≤_, _<_}
 use mathlib.Core.List.{List, _++_, map}
 use mathlib.Core.Path.{_≡_}
-use lib.ListN.{length, set, take, drop}
+use lib.ListN.{length, take, drop}
 use Rattle.rules.specs.Locals.{LocalDefinition, noted, without-notes}
 use Rattle.rules.specs.Settling.{Reference}
-use Rattle.tables.specs.Rows.{row}
+use Rattle.tables.specs.Rows.{Put}
 use Rattle.locals.specs.Meaning.{locals-of, reference, references-of}
 use Rattle.locals.specs.declared.Kept.{Kept}
 use Rattle.locals.specs.declared.Kept.the-variants.{To, NoRoom}
 
--- the entry id holds this local, and the others what they held
-pub record PutLocal (before after : List ℕ) (id : ℕ) (l : LocalDefinition) : Type 0 where
-  pub size : length after ≡ length before
-  pub held : (n : ℕ) → id < n → locals-of n after ≡ set (locals-of n before) id l
-  pub below : (n : ℕ) → n ≤ id → locals-of n after ≡ locals-of n before
-  pub others : (k : ℕ) → (k ≡ id → ⊥) → row k after ≡ row k before
+abbrev pub PutLocal : (before after : List ℕ) → (id : ℕ) → LocalDefinition → Type 0
+PutLocal before after id l = Put locals-of before after id l
+
+abbrev pub PutReference : (before after : List ℕ) → (i : ℕ) → Reference → Type 0
+PutReference before after i r = Put references-of before after i r
 
 -- the references with those that the user has noted among the locals from `first` on
 unfoldable pub with-noted : (user first : ℕ) → List LocalDefinition → List Reference → List Reference

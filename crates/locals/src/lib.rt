@@ -5,8 +5,8 @@ ghost use lib.ListN.{length};
 ghost use lib.Seq.{sets};
 ghost use Rattle.rules.specs.Locals.{local-at, newest, use-at, note-reference, with-analysis};
 ghost use Rattle.depths.specs.Meaning.{result};
-ghost use Rattle.locals.specs.Meaning.{local, local-of-row, locals-of, numbers, found};
-ghost use Rattle.locals.specs.Tables.{PutLocal, Keeps};
+ghost use Rattle.locals.specs.Meaning.{local, local-of-row, locals-of, numbers, found, refers, reference-at, references-of};
+ghost use Rattle.locals.specs.Tables.{PutLocal, PutReference, Keeps};
 use depths::AnalysisResult;
 
 // The position of a local's entry.
@@ -27,6 +27,12 @@ pub struct LocalDefinition {
     pub place: u32,
 }
 
+// A reference kept for the spec `user`, whose value referred to its sibling `used`.
+pub struct Reference {
+    pub user: LocalId,
+    pub used: LocalId,
+}
+
 pub enum Found {
     At(LocalId),
     Nothing,
@@ -38,7 +44,7 @@ pub enum Kept {
     NoRoom,
 }
 
-// Where an entry has the numbers that are read or stored alone.
+// Where an entry has the numbers that are read or stored alone: a search looks at one or two numbers of each entry.
 const SCRATCH_REFERENCED: usize = 7;
 
 const HAS_NAME: usize = 9;
@@ -117,8 +123,8 @@ pub fn newest(locals: &[u32], name: u32, first: usize, n: usize) -> Found
     while 0 < left {
         left -= 1;
         let at = 16 * (first + left);
-        if locals[at + HAS_NAME] != 0 {
-            if locals[at + NAME] == name {
+        if locals[at + NAME] == name {
+            if locals[at + HAS_NAME] != 0 {
                 return Found::At(LocalId((first + left) as u32));
             }
         }
@@ -164,6 +170,28 @@ pub fn with_analysis(l: LocalDefinition, a: AnalysisResult) -> LocalDefinition
     done
 }
 
+// The reference of an entry.
+pub fn reference_at(references: &[u32], i: usize) -> Reference
+    requires { ⌜ 16 * i + 16 ≤ length (now references) ⌝ }
+    ensures { λ r. ⌜ ((n : ℕ) → i < n → refers r ≡ reference-at (references-of n (now (references .entry))) i) ⌝ }
+{
+    let at = 16 * i;
+    Reference {
+        user: LocalId(references[at]),
+        used: LocalId(references[at + 1]),
+    }
+}
+
+// A reference into an entry.
+pub fn put_reference(references: &mut [u32], i: usize, r: Reference)
+    requires { ⌜ 16 * i + 16 ≤ length (now references) ⌝ }
+    ensures { λ _. ⌜ PutReference (now (references .entry)) (now (references .exit)) i (refers r) ⌝ }
+{
+    let at = 16 * i;
+    references[at] = r.user.0;
+    references[at + 1] = r.used.0;
+}
+
 // The references that the spec `user` has noted among the n locals from `first` on, kept behind the first `kept`; their notes are cleared.
 pub fn keep_references(
     locals: &mut [u32],
@@ -187,8 +215,8 @@ pub fn keep_references(
             if max_references <= count {
                 return Kept::NoRoom;
             }
-            references[16 * count] = user.0;
-            references[16 * count + 1] = k as u32;
+            let used = LocalId(k as u32);
+            put_reference(references, count, Reference { user, used });
             locals[16 * k + SCRATCH_REFERENCED] = 0;
             count += 1;
         }

@@ -1,8 +1,9 @@
 -- Turns of the loops over heads: whether a name is among the earlier ones, and whether no head is computed and all names differ. Assumes nothing.
-use Prim.Native.Nat.{ℕ, suc, _+_, _*_, _-_, _≤_, _<_}
+use Prim.Native.Nat.{ℕ, zero, suc, _+_, _*_, _-_, _≤_, _<_}
 use mathlib.Core.Bool.{Bool, true, false}
 use mathlib.Core.List.{List, [], _∷_}
 use mathlib.Core.Path.{_≡_, refl, sym, ap, _∙_}
+use native.Mathlib.Decide.{decLt}
 use native.Mathlib.Omega.{arith}
 use lib.ListN.{length}
 use borrow.Author.Tests.{eq-eqb, ne-eqb}
@@ -11,7 +12,7 @@ use Rattle.rules.specs.Numbers.{number-at, same-name}
 use Rattle.rules.specs.Tree.{Heads}
 use Rattle.rules.specs.Walk.{is-among, is-static}
 use Rattle.runs.specs.Run.{heads-at}
-use Rattle.opening.specs.Answers.{names-before, Heads-there, IsStatic}
+use Rattle.opening.specs.Answers.{names-before, NoneAbove, Heads-there, IsStatic}
 use Rattle.opening.proofs.Reading.{first-head, no-head, FirstHead}
 
 module _ (s : List ℕ) (at : ℕ) where
@@ -46,6 +47,30 @@ module _ (s : List ℕ) (at : ℕ) where
       pub among-next : (x ≡ name → ⊥) → Among name n (left - 1)
       unfolding same-name choose
       among-next ne = record { within = let w = A .within in omega (arith, w); same = (rw (ne-eqb name x (λ e. ne (sym e))) at among-split) }
+
+  -- A name above all of the first n
+
+  pub above-begin : (highest : ℕ) → NoneAbove s at 0 highest
+  above-begin highest = record { below = λ k h. omega (arith, h) }
+
+  pub above-none : (n : ℕ) {highest name : ℕ} → NoneAbove s at n highest → highest < name → false ≡ is-among name (names-before s at n)
+  unfolding names-before is-among same-name choose
+  above-none zero none h = refl
+  above-none (suc n) {highest} {name} none h =
+      let last = none .below n (omega arith) in
+      let fewer : NoneAbove s at n highest = record { below = λ k lt. none .below k (omega (arith, lt)) } in
+      rw (ne-eqb name (number-at s (at + 26 * n + 6)) (λ e. omega (arith, last, h, e))) (above-none n fewer h)
+
+  pub above-next : {i highest name more : ℕ} → NoneAbove s at i highest → name ≡ number-at s (at + 26 * i + 6) → (highest ≤ more) × (name ≤ more) → NoneAbove s at (i + 1) more
+  above-next {i} {highest} {name} {more} none is up = record { below = λ k lt. by k (decLt k i) lt }
+    where
+      by : (k : ℕ) → Dec (k < i) → k < i + 1 → number-at s (at + 26 * k + 6) ≤ more
+      by k (yes h) lt = let b = none .below k h in let u = up .0 in omega (arith, b, u)
+      by k (no h) lt =
+          let e : k ≡ i = omega (arith, lt, h) in
+          let u = up .1 in
+          let here : number-at s (at + 26 * k + 6) ≡ name = ap (λ (j : ℕ). number-at s (at + 26 * j + 6)) e ∙ sym is in
+          omega (arith, here, u)
 
   -- All names
 
@@ -111,7 +136,7 @@ module _ (s : List ℕ) (at : ℕ) where
               ∙ ap (λ (x : Bool). choose x (λ _. false) (λ _. is-static (name ∷ names-before s at i) (head-here levels hs q read .others))) (sym is ∙ e));
         }
 
-        name-there : name ≡ number-at s (at + 26 * i + 6)
+        pub name-there : name ≡ number-at s (at + 26 * i + 6)
         name-there = name-is ∙ ap (λ (k : ℕ). number-at s (k + 6)) (S .place)
 
         pub static-next : {b : Bool} → b ≡ is-among name (names-before s at i) → b ≡ false → Static n (i + 1) (p + 26)

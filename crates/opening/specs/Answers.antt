@@ -1,6 +1,6 @@
 -- What opening a frame and defining its names answer and leave, whatever the buffers hold that a function does not have; and what the small
 -- questions answer. A primed list is what a step leaves of a buffer. Assumes nothing.
-use Prim.Native.Nat.{ℕ, zero, suc, _+_, _*_}
+use Prim.Native.Nat.{ℕ, zero, suc, _+_, _*_, _<_, _≤_}
 use mathlib.Core.Bool.{Bool, true}
 use mathlib.Core.List.{List, [], _∷_}
 use mathlib.Core.Path.{_≡_}
@@ -144,6 +144,10 @@ pub record ObjectOpened (r : Step) (locals locals′ frames frames′ : List ℕ
 unfoldable pub names-before : (s : List ℕ) → (at n : ℕ) → List Name
 names-before s at zero = []
 names-before s at (suc n) = number-at s (at + 26 * n + 6) ∷ names-before s at n
+
+-- none of these names is above the highest
+pub record NoneAbove (s : List ℕ) (at n highest : ℕ) : Type 0 where
+  pub below : (k : ℕ) → k < n → number-at s (at + 26 * k + 6) ≤ highest
 
 pub record IsStatic (r : Bool) (s : List ℕ) (at n : ℕ) : Type 0 where
   pub same : (levels : ℕ) (hs : Heads) (q : ℕ) → heads-at s levels n at ≡ ok (hs, q) → r ≡ walk.is-static [] hs

@@ -7,7 +7,7 @@ ghost use Rattle.runs.specs.Steps.{bind-naming-at, head-naming-at};
 ghost use Rattle.rules.specs.Numbers.{number-at};
 ghost use Rattle.defining.specs.Answers.{DefinedLocal};
 ghost use Rattle.state.specs.Walks.{naming-of};
-ghost use Rattle.opening.specs.Answers.{Binds-there, Opening, Params-there, Heads-there, Fitting, Deeper, InObject, ValueOpened, AfterParam, BindsDefined, ParamsDefined, LocalBegun, FunctionBegun, ObjectEntered, ObjectOpened, ObjectBegun, IsStatic, names-before};
+ghost use Rattle.opening.specs.Answers.{Binds-there, Opening, Params-there, Heads-there, Fitting, Deeper, InObject, ValueOpened, AfterParam, BindsDefined, ParamsDefined, LocalBegun, FunctionBegun, ObjectEntered, ObjectOpened, ObjectBegun, IsStatic, names-before, NoneAbove};
 use defining::define_local;
 use depths::AnalysisResult;
 use locals::LocalId;
@@ -351,21 +351,40 @@ fn is_repeated(tree: &[u8], at: usize, n: usize, name: u32) -> bool
     false
 }
 
+// The same where no name of the first n is above `highest`: a name that is above needs no search.
+fn is_met(tree: &[u8], at: usize, n: usize, name: u32, highest: u32) -> bool
+    requires { ⌜ (at + 26 * n ≤ length (now tree)) × (NoneAbove (now tree) at n highest) ⌝ }
+    ensures { λ r. ⌜ r ≡ is-among name (names-before (now (tree .entry)) at n) ⌝ }
+{
+    if highest < name {
+        return false;
+    }
+    is_repeated(tree, at, n, name)
+}
+
+fn higher(a: u32, b: u32) -> u32
+    ensures { λ r. ⌜ (a ≤ r) × (b ≤ r) ⌝ }
+{
+    if a < b { b } else { a }
+}
+
 // Whether no head of n is computed and their names all differ.
 pub fn is_static(tree: &[u8], at: usize, n: u32) -> bool
     requires { ⌜ Heads-there (now tree) n at ⌝ }
     ensures { λ r. ⌜ IsStatic r (now (tree .entry)) at n ⌝ }
 {
     let mut p = at;
+    let mut highest: u32 = 0;
     let mut i: u32 = 0;
     while i < n {
         if number_at(tree, p + 2) != 0 {
             return false;
         }
         let name = number_at(tree, p + 6);
-        if is_repeated(tree, at, i as usize, name) {
+        if is_met(tree, at, i as usize, name, highest) {
             return false;
         }
+        highest = higher(highest, name);
         p += 26;
         i += 1;
     }

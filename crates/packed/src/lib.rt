@@ -45,12 +45,23 @@ fn first_number(s: &[u8]) -> u32
     byte_at(s, 0) + 256 * byte_at(s, 1) + 65536 * byte_at(s, 2) + 16777216 * byte_at(s, 3)
 }
 
+// Four bytes that are there, as a number: unlike `first_number`, no byte is asked for its place.
+fn whole_number(s: &[u8], at: usize) -> u32
+    requires { ⌜ at + 4 ≤ length (now s) ⌝ }
+    ensures { λ r. ⌜ r ≡ number-at (now (s .entry)) at ⌝ }
+{
+    wide(s[at]) + 256 * wide(s[at + 1]) + 65536 * wide(s[at + 2]) + 16777216 * wide(s[at + 3])
+}
+
 // The number at an offset.
 pub fn number_at(s: &[u8], at: usize) -> u32
     ensures { λ r. ⌜ r ≡ number-at (now (s .entry)) at ⌝ }
 {
     if s.len() <= at {
         return 0;
+    }
+    if 4 <= s.len() - at {
+        return whole_number(s, at);
     }
     first_number(&s[at..])
 }

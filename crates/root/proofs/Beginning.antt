@@ -25,7 +25,7 @@ use Rattle.rules.proofs.After.{After, fine, after-ok, after-bind, after-need, a
 use Rattle.locals.specs.Meaning.{local}
 use Rattle.locals.specs.declared.LocalDefinition.{LocalDefinition}
 use Rattle.frames.specs.Meaning.{number, frame-of, frames-of}
-use Rattle.frames.specs.Kept.{Kept}
+use Rattle.frames.specs.Kept.{Kept, Owned}
 use Rattle.frames.specs.Answers.{Opened}
 use Rattle.runs.proofs.Reading.{bind-first, bind-ext}
 use Rattle.state.specs.Seen.{Buffers, buffers, stack, seen, limits-of, Fit, Fits}
@@ -181,7 +181,7 @@ module _ (limits : Limits) (st : AnalysisStack) (n : ℕ) (before : List ℕ) (b
     module _ (out d ls cs rs : List ℕ) (fit : Fit limits (buffers out d ls before cs rs) st) where
       frames-are : frames-of 1 after (st .captures) cs ≡ new-frame true 0 n ∷ []
       unfolding frames-of
-      frames-are = opened .same cs (subst (λ (k : ℕ). (i : ℕ) → i < st .captures → number cs i 0 < k) bare (fit .frames-kept .owned))
+      frames-are = opened .same cs (subst (λ (k : ℕ). Owned k (st .captures) cs) bare (fit .frames-kept .owned))
 
       first-new : number after 0 1 ≡ 0
       unfolding top frames-of frame-of new-frame

@@ -3,18 +3,16 @@ use Prim.Native.Nat.{ℕ, _+_, _*_, _≤_, _<_}
 use mathlib.Core.Bool.{Bool, true, false, not, _||_}
 use mathlib.Core.List.{List, [], _∷_}
 use mathlib.Core.Path.{_≡_, refl, sym, ap, _∙_}
-use native.Mathlib.Decide.{decLt}
 use native.Mathlib.Omega.{arith}
 use lib.Dec.{ltb}
-use lib.ListN.{length, getD, drop, set, length-set, length-drop}
-use lib.Seq.{length-take-le}
+use lib.ListN.{length, getD, set, length-set}
 use borrow.Author.Tests.{lt-ltb, le-ltb}
 use Rattle.rules.specs.Outcome.{choose}
 use Rattle.rules.specs.Depths.{AnalysisResult, taint-by, depend-on-local, same-result}
 use Rattle.rules.specs.Locals.{LocalDefinition, local-at, with-analysis, with-used-at-depth}
 use Rattle.rules.specs.Settling.{Reference, Round, Loop, propagate-analysis, propagate-use}
 use Rattle.tables.specs.Rows.{row}
-use Rattle.tables.proofs.Laws.{row-at, row-set, row-other, row-later}
+use Rattle.tables.proofs.Laws.{row-at, row-set, row-beside, length-row}
 use Rattle.locals.specs.Meaning.{local-of-row, locals-of, reference}
 use Rattle.locals.specs.Tables.{PutLocal}
 use Rattle.locals.proofs.Laws.{locals-at, local-stored}
@@ -60,10 +58,6 @@ analysis-propagated user-read used-read is-tainted is-analysis is-stored put is-
 
 -- The use
 
-length-row : (k : ℕ) (t : List ℕ) → 16 * k + 16 ≤ length t → length (row k t) ≡ 16
-unfolding row
-length-row k t inside = length-take-le 16 (drop (16 * k) t) (omega (arith, length-drop (16 * k) t))
-
 -- an entry with another number for it
 row-with : (r : List ℕ) (depth : ℕ) → 1 < length r → local-of-row (set r 1 depth) ≡ with-used-at-depth depth (local-of-row r)
 unfolding local-of-row with-used-at-depth
@@ -88,15 +82,8 @@ module _ (t : List ℕ) where
     local-lowered : local-of-row (row k lowered) ≡ with-used-at-depth depth (local-of-row (row k t))
     local-lowered = ap local-of-row (row-set k 1 depth t (omega arith)) ∙ row-with (row k t) depth (omega (arith, length-row k t inside))
 
-    others : (i : ℕ) → (i ≡ k → ⊥) → row i lowered ≡ row i t
-    others i differs = by (decLt i k)
-      where
-        by : Dec (i < k) → row i lowered ≡ row i t
-        by (yes before) = row-other i k 1 depth t (omega arith) before
-        by (no behind) = row-later i k 1 depth t (omega arith) (omega arith)
-
     use-stored : PutLocal t lowered k (with-used-at-depth depth (local-of-row (row k t)))
-    use-stored = local-stored k t lowered others (with-used-at-depth depth (local-of-row (row k t))) (length-set t (16 * k + 1) depth) local-lowered
+    use-stored = local-stored k t lowered (λ i differs. row-beside i k 1 depth t (omega arith) differs) (with-used-at-depth depth (local-of-row (row k t))) (length-set t (16 * k + 1) depth) local-lowered
 
   module _ (user used : ℕ) where
     -- the choice for the depth at which the user is used, the used one and its depth

@@ -5,41 +5,27 @@ use mathlib.Core.List.{List, [], _∷_}
 use mathlib.Core.Path.{_≡_, refl, sym, ap, _∙_}
 use native.Mathlib.Numerals.{add-one}
 use native.Mathlib.Omega.{arith}
-use lib.ListN.{length, getD, length-map, List·getD-map, drop-of-length-le}
+use lib.ListN.{length, drop-of-length-le}
 use lib.Seq.{drop-cons}
-use Rattle.rules.specs.Settling.{Reference, Round, Loop, one-round}
-use Rattle.tables.specs.Rows.{rows}
-use Rattle.tables.proofs.Laws.{length-rows, rows-at, row-at}
-use Rattle.locals.specs.Meaning.{locals-of, reference, reference-of-row, references-of}
+use Rattle.rules.specs.Settling.{Round, Loop, one-round}
+use Rattle.locals.specs.Meaning.{locals-of, reference, refers, references-of, reference-at}
+use Rattle.locals.specs.declared.Reference.{Reference}
+use Rattle.locals.proofs.Keeping.{length-references}
 use Rattle.settle.specs.Meaning.{references-between, Below, Inside, round, Propagates, OneRound}
 use Rattle.settle.proofs.Propagating.{Ors}
 
 -- The references that are left
 
 module _ (references : List ℕ) where
-  -- the reference of an entry, as it is read
-  abbrev reference-at : ℕ → Reference
-  reference-at k = reference (getD references (16 * k) 0) (getD references (16 * k + 1) 0)
-
-  length-references : (n : ℕ) → length (references-of n references) ≡ n
-  unfolding references-of
-  length-references n = length-map (rows n references) reference-of-row ∙ length-rows n references
-
-  read : (n k : ℕ) → k < n → getD (references-of n references) k (reference-of-row []) ≡ reference-at k
-  unfolding references-of reference-of-row
-  read n k h =
-      let at : 16 * k + 0 ≡ 16 * k = omega arith in
-      List·getD-map reference-of-row (rows n references) k [] ∙ rw (rows-at n k references h, row-at k 0 references (omega arith), row-at k 1 references (omega arith), at)
-
-  one-more : (k to : ℕ) → k < to → references-between k to references ≡ reference-at k ∷ references-between (k + 1) to references
-  unfolding references-between
+  one-more : (k to : ℕ) → k < to → references-between k to references ≡ reference-at (references-of to references) k ∷ references-between (k + 1) to references
+  unfolding references-between reference-at
   one-more k to more =
-      let inside : k < length (references-of to references) = omega (arith, length-references to) in
-      rw (add-one k, drop-cons (references-of to references) k (reference-of-row []) inside, read to k more)
+      let inside : k < length (references-of to references) = omega (arith, length-references to references) in
+      rw (add-one k) (drop-cons (references-of to references) k (reference 0 0) inside)
 
   no-more : (k to : ℕ) → to ≤ k → references-between k to references ≡ []
   unfolding references-between
-  no-more k to h = let past : length (references-of to references) ≤ k = omega (arith, length-references to) in drop-of-length-le (references-of to references) past
+  no-more k to h = let past : length (references-of to references) ≤ k = omega (arith, length-references to references) in drop-of-length-le (references-of to references) past
 
 -- The round
 
@@ -58,22 +44,22 @@ module _ {loop : Loop} {references locals : List ℕ} {from to : ℕ} {t : List 
   unfolding one-round
   round-ends h = record { same = λ n below. rw (no-more references k to h) at (at .same n below) }
 
-  module _ (more : k < to) where
-    here-below : (n : ℕ) → Below n (references-between from to references) → Below n (reference-at references k ∷ references-between (k + 1) to references)
-    here-below n below = rw (one-more references k to more) at (at .left-below n below)
+  -- r is the reference that is read there
+  module _ (more : k < to) (r : Reference) (read : (n : ℕ) → k < n → refers r ≡ reference-at (references-of n references) k) where
+    next : references-between k to references ≡ refers r ∷ references-between (k + 1) to references
+    next = rw (read to more) (one-more references k to more)
+
+    here-below : (n : ℕ) → Below n (references-between from to references) → Below n (refers r ∷ references-between (k + 1) to references)
+    here-below n below = rw next at (at .left-below n below)
 
     -- both locals of the reference have their entries
+    pub both-inside : Inside locals references from to → (16 * (r .user .0) + 16 ≤ length t) × (16 * (r .used .0) + 16 ≤ length t)
+    unfolding Below
+    both-inside inside =
+        let below = here-below (inside .entries) (inside .below) in
+        (omega (arith, below .0, inside .locals-long, at .size), omega (arith, below .1, inside .locals-long, at .size))
 
-    module _ (inside : Inside locals references from to) where
-      pub user-inside : 16 * getD references (16 * k) 0 + 16 ≤ length t
-      unfolding Below
-      user-inside = let below : getD references (16 * k) 0 < inside .entries = here-below (inside .entries) (inside .below) .0 in omega (arith, inside .locals-long, at .size)
-
-      pub used-inside : 16 * getD references (16 * k + 1) 0 + 16 ≤ length t
-      unfolding Below
-      used-inside = let below : getD references (16 * k + 1) 0 < inside .entries = here-below (inside .entries) (inside .below) .1 in omega (arith, inside .locals-long, at .size)
-
-    pub round-goes-on : {t′ : List ℕ} {now-changed : Bool} → Ors loop → length t′ ≡ length t → Propagates loop t t′ (getD references (16 * k) 0) (getD references (16 * k + 1) 0) now-changed
+    pub round-goes-on : {t′ : List ℕ} {now-changed : Bool} → Ors loop → length t′ ≡ length t → Propagates loop t t′ (r .user .0) (r .used .0) now-changed
         → Turn loop references locals from to t′ (changed || now-changed) (k + 1)
     unfolding Below one-round
     round-goes-on {t′} {now-changed} ors size propagates = record {
@@ -81,8 +67,8 @@ module _ {loop : Loop} {references locals : List ℕ} {from to : ℕ} {t : List 
       left-below = λ n below. here-below n below .2;
       same = λ n below.
           ap (one-round loop (references-between (k + 1) to references))
-          (ap (λ (r : Round). round (r .locals) (changed || r .changed)) (propagates .same n (here-below n below .0) (here-below n below .1))
-          ∙ sym (ors (locals-of n t) changed (reference-at references k)))
-          ∙ ap (λ refs. one-round loop refs (round (locals-of n t) changed)) (sym (one-more references k to more))
+          (ap (λ (now : Round). round (now .locals) (changed || now .changed)) (propagates .same n (here-below n below .0) (here-below n below .1))
+          ∙ sym (ors (locals-of n t) changed (refers r)))
+          ∙ ap (λ refs. one-round loop refs (round (locals-of n t) changed)) (sym next)
           ∙ at .same n below;
     }

@@ -40,9 +40,8 @@ pub fn analysis_round(locals: &mut [u32], references: &[u32], from: usize, to: u
     let mut changed = false;
     let mut k = from;
     while k < to {
-        let user = LocalId(references[16 * k]);
-        let used = LocalId(references[16 * k + 1]);
-        changed |= propagate_analysis(locals, user, used);
+        let r = locals::reference_at(references, k);
+        changed |= propagate_analysis(locals, r.user, r.used);
         k += 1;
     }
     changed
@@ -56,9 +55,8 @@ pub fn use_round(locals: &mut [u32], references: &[u32], from: usize, to: usize)
     let mut changed = false;
     let mut k = from;
     while k < to {
-        let user = LocalId(references[16 * k]);
-        let used = LocalId(references[16 * k + 1]);
-        changed |= propagate_use(locals, user, used);
+        let r = locals::reference_at(references, k);
+        changed |= propagate_use(locals, r.user, r.used);
         k += 1;
     }
     changed

@@ -44,7 +44,7 @@ pub fn emit_slot(
         st.frames,
         st.captures,
         limits.max_captures,
-        id.0,
+        id,
     );
     match r {
         Resolved::To(slot, count) => {

@@ -748,7 +748,8 @@ fn on_fields(
     )
 }
 
-// An expression, or an `NA`, `PT` or `AT` with the expressions that it holds.
+// An expression, or an `NA`, `PT` or `AT` with the expressions that it holds. Most items have nothing below them, so that these
+// do without the call of `analyze`, which does the same.
 fn on_item(
     tree: &[u8],
     out: &mut [u8],
@@ -769,6 +770,31 @@ fn on_item(
 {
     let mark = mark_at(tree, at);
     match mark {
+        ID => analyze_identity(
+            tree,
+            out,
+            diagnostics,
+            locals,
+            frames,
+            captures,
+            limits,
+            st,
+            at,
+            here,
+        ),
+        TV => copy_record(tree, out, st, at, at + 6, TV),
+        VA => analyze_variable(
+            tree,
+            out,
+            diagnostics,
+            locals,
+            frames,
+            captures,
+            limits,
+            st,
+            at,
+            here,
+        ),
         NA => on_held(
             tree,
             out,

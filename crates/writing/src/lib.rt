@@ -5,8 +5,8 @@ ghost use Prim.Native.Nat.{ℕ, _*_, _≤_, _<_};
 ghost use lib.ListN.{length};
 ghost use Rattle.rules.specs.Numbers.{numbers-bytes};
 ghost use Rattle.rules.specs.Writing.{level-number, pairs-of};
-ghost use Rattle.frames.specs.Meaning.{number, captures-of};
-ghost use Rattle.frames.specs.Kept.{Kept};
+ghost use Rattle.frames.specs.Meaning.{captures-of};
+ghost use Rattle.frames.specs.Kept.{Kept, SmallSource};
 ghost use Rattle.writing.specs.Answers.{level-of, shape-bytes, Behind, Emitted, Reported, BadPlace, FrameOpened, FrameClosed};
 use frames::Next;
 use frames::slot_kind;
@@ -143,7 +143,7 @@ fn put_pairs(
 ) -> Written
     requires { ⌜ (2 ≤ used) × (used ≤ length (now out)) ⌝ }
     requires { ⌜ (16 * count ≤ length (now captures)) × (from ≤ count) × (captures-of owner from (now captures) ≡ []) ⌝ }
-    requires { ⌜ ((i : ℕ) → i < count → number (now captures) i 3 ≤ 65535) ⌝ }
+    requires { ⌜ ((i : ℕ) → i < count → SmallSource (now captures) i) ⌝ }
     ensures { λ r. ⌜ Behind r (now (out .entry)) (now (out .exit)) used (numbers-bytes (pairs-of (captures-of owner count (now (captures .entry))))) ⌝ }
 {
     let mut to = used;

@@ -4,7 +4,7 @@ use mathlib.Core.Path.{sym, _∙_}
 use Prim.Native.Nat.{_-_}
 use native.Mathlib.Omega.{arith}
 use borrow.Author.Needs.{needs}
-use Rattle.frames.proofs.Closing.{Closing, closing-begin, closing-skip, closing-move, closing-end}
+use Rattle.frames.proofs.Closing.{Closing, closing-begin, closing-skip, next-small, closing-move, closing-end}
 use Rattle.frames.proofs.close_frame.Statement.{statement}
 use Rattle.frames.proofs.close_frame.Tie as tie
 
@@ -17,53 +17,38 @@ abbrev μ-loop : tie.MeasureT-loop
 sub-top : tie.Need-sub-top Inv-loop μ-loop
 sub-top c = search needs
 
-number-at-requires : tie.Need-number-at-requires Inv-loop μ-loop
-number-at-requires c κs = omega (arith, c .before .before .pre .0 .below .frames-fit, c .before .before .pre .1)
+frame-at-requires : tie.Need-frame-at-requires Inv-loop μ-loop
+frame-at-requires c κs = omega (arith, c .before .before .pre .0 .below .frames-fit, c .before .before .pre .1)
 
 loop-holds : tie.Need-loop-holds Inv-loop μ-loop
-loop-holds c = closing-begin _ _ _ _ (c .before .before .before .pre .0) (c .before .before .before .pre .1) _ (c .number-at .ensures)
+loop-holds c = closing-begin _ _ _ _ (c .before .before .before .pre .0) (c .before .before .before .pre .1) _ (c .frame-at .ensures .from)
 
-number-at-requires-2 : tie.Need-number-at-requires-2 Inv-loop μ-loop
-number-at-requires-2 c κs =
-    let pre = c .before .before .before .before .before .before .pre in
-    let loop = c .before .before .loop in
-    let loop-test = c .before .loop-test in
-    omega (arith, loop .inv .long, loop-test .taken, pre .0 .below .captures-fit)
+owner-at-requires : tie.Need-owner-at-requires Inv-loop μ-loop
+owner-at-requires c κs =
+    let turn = c .before in
+    let start = turn .before .before .before .before .before in
+    omega (arith, turn .before .loop .inv .long, turn .loop-test .taken, start .pre .0 .below .captures-fit)
 
-number-at-requires-3 : tie.Need-number-at-requires-3 Inv-loop μ-loop
-number-at-requires-3 c κs =
-    let pre = c .before .before .before .before .before .before .before .before .before .pre in
-    let loop = c .before .before .before .before .before .loop in
-    let loop-test = c .before .before .before .before .loop-test in
-    omega (arith, loop .inv .long, loop-test .taken, pre .0 .below .captures-fit)
+capture-at-requires : tie.Need-capture-at-requires Inv-loop μ-loop
+capture-at-requires c κs =
+    let turn = c .before .before .before .before .before in
+    let opened = turn .before .before in
+    let start = opened .before .before .before in (
+      omega (arith, turn .before .loop .inv .long, turn .loop-test .taken, start .pre .0 .below .captures-fit),
+      next-small _ _ _ _ (start .pre .0) (start .pre .1) _ (opened .frame-at .ensures .from) _ _ _ (turn .before .loop .inv) (turn .loop-test .taken),
+    )
 
-number-at-requires-4 : tie.Need-number-at-requires-4 Inv-loop μ-loop
-number-at-requires-4 c κs =
-    let pre = c .before .before .before .before .before .before .before .before .before .before .before .pre in
-    let loop = c .before .before .before .before .before .before .before .loop in
-    let loop-test = c .before .before .before .before .before .before .loop-test in
-    omega (arith, loop .inv .long, loop-test .taken, pre .0 .below .captures-fit)
-
-number-at-requires-5 : tie.Need-number-at-requires-5 Inv-loop μ-loop
-number-at-requires-5 c κs =
-    let pre = c .before .before .before .before .before .before .before .before .before .before .before .before .before .pre in
-    let loop = c .before .before .before .before .before .before .before .before .before .loop in
-    let loop-test = c .before .before .before .before .before .before .before .before .loop-test in
-    omega (arith, loop .inv .long, loop-test .taken, pre .0 .below .captures-fit)
-
-put-entry-requires : tie.Need-put-entry-requires Inv-loop μ-loop
-put-entry-requires c κs =
-    let pre = c .before .before .before .before .before .before .before .before .before .before .before .before .before .before .before .pre in
-    let loop = c .before .before .before .before .before .before .before .before .before .before .before .loop in
-    let loop-test = c .before .before .before .before .before .before .before .before .before .before .loop-test in
-    omega (arith, loop .inv .long, loop .inv .behind, loop-test .taken, pre .0 .below .captures-fit)
+put-capture-requires : tie.Need-put-capture-requires Inv-loop μ-loop
+put-capture-requires c κs =
+    let turn = c .before .before .before .before .before .before in
+    let start = turn .before .before .before .before .before in
+    omega (arith, turn .before .loop .inv .long, turn .before .loop .inv .behind, turn .loop-test .taken, start .pre .0 .below .captures-fit)
 
 add-to : tie.Need-add-to Inv-loop μ-loop
 add-to c =
-    let fits = c .before .before .before .before .before .before .before .before .before .before .before .before .before .before .before .before .before .before .fits in
-    let loop = c .before .before .before .before .before .before .before .before .before .before .before .before .before .before .loop in
-    let loop-test = c .before .before .before .before .before .before .before .before .before .before .before .before .before .loop-test in
-    omega (arith, loop .inv .behind, loop-test .taken, fits .count)
+    let turn = c .before .before .before .before .before .before .before .before .before in
+    let start = turn .before .before .before .before .before in
+    omega (arith, turn .before .loop .inv .behind, turn .loop-test .taken, start .fits .count)
 
 add-i : tie.Need-add-i Inv-loop μ-loop
 add-i c = search needs
@@ -74,16 +59,15 @@ loop-less c = search needs
 loop-again : tie.Need-loop-again Inv-loop μ-loop
 loop-again c =
     let pre = c .before .before .before .before .before .before .before .before .pre in
-    let number-at = c .before .before .before .before .before .number-at in
+    let frame-at = c .before .before .before .before .before .frame-at in
     let loop = c .before .before .before .before .loop in
     let loop-test = c .before .before .before .loop-test in
-    let number-at2 = c .before .number-at2 in
-    let if1 = c .if1 in
+    let owner-at = c .before .owner-at in
     ⊎-elim
-    (λ w. rw (w .11, w .12) (closing-move _ _ _ _ (pre .0) (pre .1) _ (number-at .ensures) _ _ _ (loop .inv) (loop-test .taken) (λ e. w .0 .taken (number-at2 .ensures ∙ e)) _
-    (rw (number-at2 .ensures, w .2 .ensures, w .4 .ensures, w .6 .ensures) at (w .8 .ensures))))
-    (λ w. rw (w .1, w .2) (closing-skip _ _ _ _ (pre .0) (pre .1) _ (number-at .ensures) _ _ _ (loop .inv) (loop-test .taken) (sym (number-at2 .ensures) ∙ w .0 .left)))
-    (if1 .came)
+    (λ w. rw (w .7, w .8) (closing-move _ _ _ _ (pre .0) (pre .1) _ (frame-at .ensures .from) _ _ _ (loop .inv) (loop-test .taken) (λ e. w .0 .taken (owner-at .ensures ∙ e)) _
+    _ (w .3 .ensures) (w .4 .ensures .0)))
+    (λ w. rw (w .1, w .2) (closing-skip _ _ _ _ (pre .0) (pre .1) _ (frame-at .ensures .from) _ _ _ (loop .inv) (loop-test .taken) (sym (owner-at .ensures) ∙ w .0 .left)))
+    (c .if1 .came)
 
 same-length : tie.Need-same-length Inv-loop μ-loop
 same-length c = c .before .loop .inv .long
@@ -91,10 +75,9 @@ same-length c = c .before .loop .inv .long
 returns : tie.Need-returns Inv-loop μ-loop
 returns c =
     let pre = c .before .before .before .before .before .pre in
-    let number-at = c .before .before .number-at in
+    let frame-at = c .before .before .frame-at in
     let loop = c .before .loop in
-    let loop-test = c .loop-test in
-    closing-end _ _ _ _ (pre .0) (pre .1) _ (number-at .ensures) _ _ _ (loop .inv) (omega (arith, loop .inv .within, loop-test .left))
+    closing-end _ _ _ _ (pre .0) (pre .1) _ (frame-at .ensures .from) _ _ _ (loop .inv) (omega (arith, loop .inv .within, c .loop-test .left))
 
 pub close-frame-spec : {M : Type 1} → statement M
 close-frame-spec =
@@ -103,13 +86,11 @@ close-frame-spec =
     Inv-loop
     μ-loop
     sub-top
-    number-at-requires
+    frame-at-requires
     loop-holds
-    number-at-requires-2
-    number-at-requires-3
-    number-at-requires-4
-    number-at-requires-5
-    put-entry-requires
+    owner-at-requires
+    capture-at-requires
+    put-capture-requires
     add-to
     add-i
     loop-less

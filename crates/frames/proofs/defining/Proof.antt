@@ -4,6 +4,7 @@ use mathlib.Core.Path.{_≡_, refl, sym, _∙_}
 use Prim.Native.Nat.{ℕ, _≤_}
 use native.Mathlib.Omega.{arith}
 use borrow.Author.Needs.{needs}
+use borrow.Author.Tests.{eqb-true, eqb-false}
 use Rattle.rules.specs.Frames as rules
 use Rattle.frames.specs.Meaning.{frames-of}
 use Rattle.frames.proofs.Laws.{home-here, home-nowhere, defining-beneath}
@@ -22,32 +23,28 @@ loop-holds c = (omega arith, λ count captures. refl)
 sub-i : tie.Need-sub-i Inv-loop μ-loop
 sub-i c = search needs
 
-number-at-requires : tie.Need-number-at-requires Inv-loop μ-loop
-number-at-requires c κs = search needs
-
 frame-at-requires : tie.Need-frame-at-requires Inv-loop μ-loop
 frame-at-requires c κs = search needs
 
 returns : tie.Need-returns Inv-loop μ-loop
 returns c =
-    let pre = c .before .before .before .before .before .before .pre in
-    let loop = c .before .before .before .before .loop in
-    let loop-test = c .before .before .before .loop-test in
-    let number-at = c .before .before .number-at in
-    let if1 = c .before .if1 in
-    let frame-at = c .frame-at in
-    home-here _ _ _ (loop .inv .1) _ (loop-test .taken) (sym (number-at .ensures) ∙ if1 .taken) (frame-at .ensures) (pre .1 _ (omega (arith, loop .inv .0, loop-test .taken)))
+    let frame-at = c .before .frame-at in
+    let turn = c .before .before in
+    let start = turn .before .before .before in
+    home-here _ _ _ (turn .before .loop .inv .1) _ (turn .loop-test .taken) (eqb-true _ _ (sym (frame-at .ensures .defining) ∙ c .if1 .taken)) (frame-at .ensures)
+    (start .pre .1 _ (omega (arith, turn .before .loop .inv .0, turn .loop-test .taken)))
 
 loop-less : tie.Need-loop-less Inv-loop μ-loop
 loop-less c = search needs
 
 loop-again : tie.Need-loop-again Inv-loop μ-loop
 loop-again c =
-    let loop = c .before .before .before .loop in
-    let loop-test = c .before .before .loop-test in
-    let number-at = c .before .number-at in
-    let if1 = c .if1 in
-    (omega arith, λ count captures. loop .inv .1 count captures ∙ defining-beneath _ count captures _ (loop-test .taken) (λ e. if1 .left (number-at .ensures ∙ e)))
+    let frame-at = c .before .frame-at in
+    let turn = c .before .before in (
+      omega arith,
+      λ count captures. turn .before .loop .inv .1 count captures
+          ∙ defining-beneath _ count captures _ (turn .loop-test .taken) (eqb-false _ _ (sym (frame-at .ensures .defining) ∙ c .if1 .left)),
+    )
 
 returns-2 : tie.Need-returns-2 Inv-loop μ-loop
 returns-2 c = home-nowhere _ _ _ (c .before .loop .inv .1) _ (omega arith) refl refl
@@ -60,7 +57,6 @@ defining-spec =
     μ-loop
     loop-holds
     sub-i
-    number-at-requires
     frame-at-requires
     returns
     loop-less

@@ -1,4 +1,4 @@
--- `n_captures` counts the owner's captures. The loop's invariant: k are among the entries passed. Assumes nothing.
+-- `n_captures` counts the owner's captures. The loop's invariant: `own` are among the entries passed. Assumes nothing.
 use mathlib.Core.Logic.{⊎-elim}
 use mathlib.Core.Path.{_≡_, sym, _∙_}
 use Prim.Native.Nat.{_-_, _≤_}
@@ -11,19 +11,19 @@ use Rattle.frames.proofs.n_captures.Statement.{statement}
 use Rattle.frames.proofs.n_captures.Tie as tie
 
 abbrev Inv-loop : tie.InvT-loop
-Inv-loop captures from count owner k₀ i₀ k i = (i ≤ count) × (k ≡ length (captures-of owner i captures))
+Inv-loop captures from count owner own₀ i₀ own i = (i ≤ count) × (own ≡ length (captures-of owner i captures))
 
 abbrev μ-loop : tie.MeasureT-loop
-μ-loop captures from count owner k₀ i₀ k i = count - i
+μ-loop captures from count owner own₀ i₀ own i = count - i
 
 loop-holds : tie.Need-loop-holds Inv-loop μ-loop
 loop-holds c = (c .before .pre .1, counted-none _ _ _ (c .before .pre .2))
 
-number-at-requires : tie.Need-number-at-requires Inv-loop μ-loop
-number-at-requires c κs = search needs
+owner-at-requires : tie.Need-owner-at-requires Inv-loop μ-loop
+owner-at-requires c κs = search needs
 
-add-k : tie.Need-add-k Inv-loop μ-loop
-add-k c =
+add-own : tie.Need-add-own Inv-loop μ-loop
+add-own c =
     let args = c .before .before .before .before .before .args in
     let loop = c .before .before .before .loop in
     omega (arith, loop .inv .1, captures-few (args .owner) (loop .i) (args .captures .now))
@@ -37,13 +37,12 @@ loop-less c = search needs
 loop-again : tie.Need-loop-again Inv-loop μ-loop
 loop-again c =
     let loop = c .before .before .before .loop in
-    let number-at = c .before .number-at in
-    let if1 = c .if1 in (
+    let owner-at = c .before .owner-at in (
       omega arith,
       ⊎-elim
-          (λ w. w .1 ∙ counted-mine _ _ _ _ (loop .inv .1) (sym (number-at .ensures) ∙ w .0 .taken))
-          (λ w. w .1 ∙ counted-other _ _ _ _ (loop .inv .1) (λ e. w .0 .left (number-at .ensures ∙ e)))
-          (if1 .came),
+          (λ w. w .1 ∙ counted-mine _ _ _ _ (loop .inv .1) (sym (owner-at .ensures) ∙ w .0 .taken))
+          (λ w. w .1 ∙ counted-other _ _ _ _ (loop .inv .1) (λ e. w .0 .left (owner-at .ensures ∙ e)))
+          (c .if1 .came),
     )
 
 returns : tie.Need-returns Inv-loop μ-loop
@@ -56,8 +55,8 @@ n-captures-spec =
     Inv-loop
     μ-loop
     loop-holds
-    number-at-requires
-    add-k
+    owner-at-requires
+    add-own
     add-i
     loop-less
     loop-again

@@ -3,6 +3,7 @@ use mathlib.Core.Path.{sym, ap, _∙_}
 use mathlib.Core.Logic.{⊎-elim}
 use lib.Dec.{eqb}
 use borrow.Author.Needs.{needs}
+use Rattle.frames.proofs.Laws.{number-same}
 use Rattle.frames.proofs.put_frame.Statement.{statement}
 use Rattle.frames.proofs.put_frame.Tie as tie
 
@@ -24,7 +25,7 @@ returns c =
         locals = sym (put-entry .ensures .n2);
         from = sym (put-entry .ensures .n3);
       },
-      put-entry .ensures .rest,
+      λ k j ne lt. number-same k j _ _ (put-entry .ensures .others k ne) lt,
     )
 
 pub put-frame-spec : {M : Type 1} → statement M

@@ -1,6 +1,5 @@
 -- `keep_references` keeps what was noted, within the limit, and clears the notes. The invariant: what is left to keep and to clear gives what the whole gives. Assumes nothing.
 use Prim.Native.Nat.{_-_}
-use lib.ListN.{length-set}
 use Rattle.locals.proofs.Keeping.{Keeping, keeping-begins, keeping-passed, keeping-kept, keeping-refused, keeping-ends}
 use native.Mathlib.Omega.{arith}
 use Rattle.locals.proofs.keep_references.Statement.{statement}
@@ -43,29 +42,11 @@ same-length-2 c = c .before .before .before .before .loop .inv .references-size
 returns : tie.Need-returns Inv-loop μ-loop
 returns c = keeping-refused (c .before .before .before .before .loop .inv) (c .before .before .before .loop-test .taken) (c .before .if1 .taken) (c .if2 .taken)
 
-mul-references : tie.Need-mul-references Inv-loop μ-loop
-mul-references c = omega arith
+cast-t20 : tie.Need-cast-t20 Inv-loop μ-loop
+cast-t20 c = omega arith
 
-mul-references-2 : tie.Need-mul-references-2 Inv-loop μ-loop
-mul-references-2 c = omega arith
-
-slice-write-references : tie.Need-slice-write-references Inv-loop μ-loop
-slice-write-references c = omega arith
-
-cast-references : tie.Need-cast-references Inv-loop μ-loop
-cast-references c = omega arith
-
-mul-references-3 : tie.Need-mul-references-3 Inv-loop μ-loop
-mul-references-3 c = omega arith
-
-add-references : tie.Need-add-references Inv-loop μ-loop
-add-references c = omega arith
-
-mul-references-4 : tie.Need-mul-references-4 Inv-loop μ-loop
-mul-references-4 c = omega arith
-
-slice-write-references-2 : tie.Need-slice-write-references-2 Inv-loop μ-loop
-slice-write-references-2 c = simp length-set (omega arith)
+put-reference-requires : tie.Need-put-reference-requires Inv-loop μ-loop
+put-reference-requires c κs = omega arith
 
 mul-locals : tie.Need-mul-locals Inv-loop μ-loop
 mul-locals c = omega arith
@@ -86,7 +67,11 @@ loop-less : tie.Need-loop-less Inv-loop μ-loop
 loop-less c = omega arith
 
 loop-again : tie.Need-loop-again Inv-loop μ-loop
-loop-again c = keeping-kept (c .before .before .before .before .loop .inv) (c .before .before .before .loop-test .taken) (c .before .if1 .taken) (omega arith) (c .if2 .left)
+loop-again c =
+    let stored = c .before .before in
+    let test = stored .before .before in
+    let turn = test .before .before .before in
+    keeping-kept (turn .before .loop .inv) (turn .loop-test .taken) (test .before .if1 .taken) (stored .put-reference .ensures) (test .if2 .left)
 
 loop-less-2 : tie.Need-loop-less-2 Inv-loop μ-loop
 loop-less-2 c = omega arith
@@ -119,14 +104,8 @@ keep-references-spec =
     same-length
     same-length-2
     returns
-    mul-references
-    mul-references-2
-    slice-write-references
-    cast-references
-    mul-references-3
-    add-references
-    mul-references-4
-    slice-write-references-2
+    cast-t20
+    put-reference-requires
     mul-locals
     add-locals
     mul-locals-2

@@ -3,7 +3,7 @@ use Prim.Native.Nat.{_-_}
 use native.Mathlib.Omega.{arith}
 use Rattle.rules.specs.Settling.{propagate-analysis}
 use Rattle.settle.proofs.Propagating.{analysis-ors}
-use Rattle.settle.proofs.Turns.{Turn, round-begins, round-goes-on, round-ends, user-inside, used-inside}
+use Rattle.settle.proofs.Turns.{Turn, round-begins, round-goes-on, round-ends, both-inside}
 use Rattle.settle.proofs.analysis_round.Statement.{statement}
 use Rattle.settle.proofs.analysis_round.Tie as tie
 
@@ -16,32 +16,15 @@ abbrev μ-loop : tie.MeasureT-loop
 loop-holds : tie.Need-loop-holds Inv-loop μ-loop
 loop-holds c = round-begins
 
-mul-t10 : tie.Need-mul-t10 Inv-loop μ-loop
-mul-t10 c = omega arith
-
-mul-t11 : tie.Need-mul-t11 Inv-loop μ-loop
-mul-t11 c = omega arith
-
-shared-slice-read-t13 : tie.Need-shared-slice-read-t13 Inv-loop μ-loop
-shared-slice-read-t13 c = omega arith
-
-mul-t10-2 : tie.Need-mul-t10-2 Inv-loop μ-loop
-mul-t10-2 c = omega arith
-
-add-t11 : tie.Need-add-t11 Inv-loop μ-loop
-add-t11 c = omega arith
-
-mul-t14 : tie.Need-mul-t14 Inv-loop μ-loop
-mul-t14 c = omega arith
-
-shared-slice-read-t13-2 : tie.Need-shared-slice-read-t13-2 Inv-loop μ-loop
-shared-slice-read-t13-2 c = omega arith
+reference-at-requires : tie.Need-reference-at-requires Inv-loop μ-loop
+reference-at-requires c κs = omega arith
 
 propagate-analysis-requires : tie.Need-propagate-analysis-requires Inv-loop μ-loop
 propagate-analysis-requires c κs =
-    let turn = c .before .before .before in
+    let read = c .before in
+    let turn = read .before in
     let start = turn .before .before .before .before in
-    (user-inside (turn .before .loop .inv) (turn .loop-test .taken) (start .pre), used-inside (turn .before .loop .inv) (turn .loop-test .taken) (start .pre))
+    both-inside (turn .before .loop .inv) (turn .loop-test .taken) (read .reference-at .result) (read .reference-at .ensures) (start .pre)
 
 add-k : tie.Need-add-k Inv-loop μ-loop
 add-k c = omega arith
@@ -52,8 +35,9 @@ loop-less c = omega arith
 loop-again : tie.Need-loop-again Inv-loop μ-loop
 loop-again c =
     let called = c .before .before in
-    let turn = called .before .before .before .before in
-    round-goes-on (turn .before .loop .inv) (turn .loop-test .taken) analysis-ors (c .before .locals .given) (called .propagate-analysis .ensures)
+    let read = called .before .before in
+    let turn = read .before in
+    round-goes-on (turn .before .loop .inv) (turn .loop-test .taken) (read .reference-at .result) (read .reference-at .ensures) analysis-ors (c .before .locals .given) (called .propagate-analysis .ensures)
 
 same-length : tie.Need-same-length Inv-loop μ-loop
 same-length c = c .before .loop .inv .size
@@ -68,13 +52,7 @@ analysis-round-spec =
     Inv-loop
     μ-loop
     loop-holds
-    mul-t10
-    mul-t11
-    shared-slice-read-t13
-    mul-t10-2
-    add-t11
-    mul-t14
-    shared-slice-read-t13-2
+    reference-at-requires
     propagate-analysis-requires
     add-k
     loop-less
