@@ -6,3 +6,4 @@ pub mod lending;
 pub mod profiles;
 pub mod tally;
 pub mod tight;
+pub mod timing;

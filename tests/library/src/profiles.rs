@@ -1,4 +1,7 @@
-//! Tuning profiles of a size, to measure: no errors, and each name means something.
+//! Trees to measure: tuning profiles of a size, without errors and each name means something; and the examples.
+
+use std::fs;
+use std::path::{Path, PathBuf};
 
 use packed::put;
 
@@ -14,6 +17,9 @@ pub const PROFILES: [Profile; 5] = [
     ("objects", objects),
     ("functions", functions),
 ];
+
+/// Where a frame's rounds grow with it, and where no field's name is above those before it.
+pub const UNKIND: [Profile; 2] = [("settling", settling), ("descending", descending)];
 
 fn header() -> Vec<u8> {
     let mut tree = vec![];
@@ -50,20 +56,35 @@ fn flat(count: u32) -> Vec<u8> {
     tree
 }
 
-/// local n0 = n1, n1 = n2, ..; the first: references are kept, and settling takes a round for each name
+/// local n0 = n1, n1 = n2, ..; the first: references are kept
 fn forward(count: u32) -> Vec<u8> {
     let mut tree = header();
-    put(&mut tree, b"LO", &[count]);
+    successors(&mut tree, count, constant);
+    tree
+}
+
+/// local o = 1; local n0 = n1, n1 = n2, .., the last = o; the first: settling takes a round for each name
+fn settling(count: u32) -> Vec<u8> {
+    let mut tree = header();
+    put(&mut tree, b"LO", &[1]);
+    put(&mut tree, b"BV", &[count, count]);
+    constant(&mut tree);
+    successors(&mut tree, count, |tree| name(tree, count));
+    tree
+}
+
+/// Names that each use the next, and what the last uses.
+fn successors(tree: &mut Vec<u8>, count: u32, last: impl Fn(&mut Vec<u8>)) {
+    put(tree, b"LO", &[count]);
     for i in 0..count {
-        put(&mut tree, b"BV", &[i, i]);
+        put(tree, b"BV", &[i, i]);
         if i + 1 == count {
-            constant(&mut tree)
+            last(tree)
         } else {
-            name(&mut tree, i + 1)
+            name(tree, i + 1)
         }
     }
-    name(&mut tree, 0);
-    tree
+    name(tree, 0);
 }
 
 /// An array of blocks, each local n0 = 1; local n1 = n0; ..; the last
@@ -84,10 +105,19 @@ fn deep(count: u32) -> Vec<u8> {
 
 /// {local n0 = 1, local n1 = n0 + self, .., f0: n0 + self, f1: n1 + $, ..}
 fn objects(count: u32) -> Vec<u8> {
+    object(count, |i| i)
+}
+
+/// The same with the fields' names from the highest down.
+fn descending(count: u32) -> Vec<u8> {
+    object(count, |i| count - 1 - i)
+}
+
+fn object(count: u32, field: impl Fn(u32) -> u32) -> Vec<u8> {
     let mut tree = header();
     put(&mut tree, b"OB", &[count, 0, count]);
     for i in 0..count {
-        put(&mut tree, b"FH", &[0, i, i, 0, 0, 0]);
+        put(&mut tree, b"FH", &[0, field(i), i, 0, 0, 0]);
     }
     for i in 0..count {
         put(&mut tree, b"BV", &[i, i]);
@@ -124,36 +154,84 @@ fn functions(count: u32) -> Vec<u8> {
     tree
 }
 
+/// Where the repository has its examples.
+pub fn examples_folder() -> PathBuf {
+    Path::new(env!("CARGO_MANIFEST_DIR")).join("../../examples")
+}
+
+/// The packed trees of a folder by name, in the names' order.
+pub fn packed_in(folder: &Path) -> Vec<(String, Vec<u8>)> {
+    let entries = fs::read_dir(folder).unwrap_or_else(|e| panic!("{}: {e}", folder.display()));
+    let files = entries.map(|entry| entry.expect("a readable folder").path());
+    let mut trees: Vec<_> = files.filter_map(|file| packed_file(&file)).collect();
+    trees.sort();
+    trees
+}
+
+fn packed_file(file: &Path) -> Option<(String, Vec<u8>)> {
+    let name = file.file_name()?.to_str()?.strip_suffix(".bin")?;
+    Some((name.into(), fs::read(file).expect("a readable file")))
+}
+
 #[cfg(test)]
 mod tests {
     use super::*;
 
     #[test]
     fn profiles_are_accepted_without_errors() {
-        for (what, profile) in PROFILES {
+        for (what, profile) in PROFILES.into_iter().chain(UNKIND) {
             for count in [1, 2, 10, 191] {
                 let tree = profile(count);
-                let needed = model::needed(&tree).expect("accepted");
-                let answer = model::analyze(&needed, &tree);
-                assert!(!answer.errored, "{what}");
-                assert_eq!(answer, judge::run(&tree), "{what}");
-                let report = plain::analyze(&plain::read(&tree));
-                let depths = report.root_analysis;
-                assert_eq!(
-                    report.diagnostics_list.len() * 18,
-                    answer.diagnostics.len(),
-                    "{what}"
-                );
-                assert_eq!(
-                    [
-                        depths.object_dependent_depth,
-                        depths.local_dependent_depth,
-                        depths.local_dependent_depth_max
-                    ],
-                    answer.depths,
-                    "{what}"
-                );
+                assert!(!rust_and_model_agree(what, &tree), "{what}");
             }
         }
+    }
+
+    #[test]
+    fn only_settling_takes_a_round_for_each_name() {
+        let rounds = |profile: fn(u32) -> Vec<u8>| judge::run(&profile(50)).rounds;
+        assert_eq!((rounds(forward), rounds(settling)), (3, 50 + 4));
+    }
+
+    #[test]
+    fn examples_are_found_and_answered_with_their_externals() {
+        let trees = packed_in(&examples_folder());
+        let accepted = trees
+            .iter()
+            .filter(|(_, tree)| model::needed(tree).is_some());
+        let errored: Vec<(&str, bool)> = accepted
+            .map(|(name, tree)| (name.as_str(), rust_and_model_agree(name, tree)))
+            .collect();
+        let wanted = [
+            ("frame-sizes", false),
+            ("gain-ladder", false),
+            ("limiter", false),
+            ("unbound", true),
+            ("warnings", false),
+        ];
+        assert_eq!(errored, wanted);
+    }
+
+    /// Whether there is an error in a tree, of which the model, the judge and the measured Rust say the same.
+    fn rust_and_model_agree(what: &str, tree: &[u8]) -> bool {
+        let needed = model::needed(tree).expect("accepted");
+        let answer = model::analyze(&needed, tree);
+        assert_eq!(answer, judge::run(tree), "{what}");
+        let (externals, expr) = plain::read(tree);
+        let report = plain::analyze(externals, &expr);
+        let depths = report.root_analysis;
+        let diagnostics = report.diagnostics_list.len() * 18;
+        assert_eq!(diagnostics, answer.diagnostics.len(), "{what}");
+        assert_eq!(
+            [
+                depths.object_dependent_depth,
+                depths.local_dependent_depth,
+                depths.local_dependent_depth_max
+            ],
+            answer.depths,
+            "{what}"
+        );
+        assert_eq!(report.errored, answer.errored, "{what}");
+        answer.errored
     }
 }

@@ -10,6 +10,12 @@ const PROGRAMS: [(&str, &str, u64); 4] = [
     (env!("CARGO_BIN_EXE_edges"), "--only bytes", 3),
 ];
 const SPEED: &str = env!("CARGO_BIN_EXE_speed");
+const MEASURES: [&str; 4] = [
+    "--rounds 1",
+    "--examples --rounds 1",
+    "--growth --rounds 1",
+    "--calls flat 10 3",
+];
 
 /// Whether the program is content, and what it printed; every n-th answer is wrong, none for 0.
 fn run(program: &str, words: &str, every: u64) -> (bool, String) {
@@ -36,7 +42,9 @@ fn right_answers_are_taken() {
             "{program}: {text}"
         );
     }
-    assert!(run(SPEED, "--rounds 1", 0).0);
+    for words in MEASURES {
+        assert!(run(SPEED, words, 0).0, "{words}");
+    }
 }
 
 #[test]
@@ -51,5 +59,7 @@ fn every_wrong_answer_is_noticed() {
             );
         }
     }
-    assert!(!run(SPEED, "--rounds 1", 1).0);
+    for words in MEASURES {
+        assert!(!run(SPEED, words, 1).0, "{words}");
+    }
 }

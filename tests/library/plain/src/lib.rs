@@ -46,14 +46,17 @@ macro_rules! names {
 }
 pub(crate) use names;
 
-/// The Rust's tree of packed bytes that the first walk accepts, without externals; its names are interned.
-pub fn read(tree: &[u8]) -> Expr {
-    let (externals, expr) = reader::read(tree);
-    assert!(externals.is_empty(), "no externals here");
-    expr
+/// External names, as the Rust takes them.
+pub type Externals = Vec<(IStr, analyze::LocalId)>;
+
+/// The Rust's tree of packed bytes that the first walk accepts, and its externals; names are interned.
+pub fn read(tree: &[u8]) -> (Externals, Expr) {
+    let (names, expr) = reader::read(tree);
+    let externals = names.into_iter().zip((0..).map(analyze::LocalId));
+    (externals.collect(), expr)
 }
 
 /// What is measured, and nothing else.
-pub fn analyze(expr: &Expr) -> analyze::AnalysisReport {
-    analyze::analyze_root(expr, vec![])
+pub fn analyze(externals: Externals, expr: &Expr) -> analyze::AnalysisReport {
+    analyze::analyze_root(expr, externals)
 }

@@ -1,101 +1,167 @@
 //! How long the library takes beside the Rust's `analyze_root` on the same profiles, as ratios in one run.
 //!
-//! The Rust is given its own tree, built before the clock starts, and what it answers is dropped after the clock stops.
-//! The library is given packed bytes, exactly the limits and buffers that they need, and zeroes its tables in the call.
-//! `speed --rounds N`.
+//! `speed`: generated profiles; `speed --examples [FOLDER]`: packed trees; `speed --growth`: how the time of a byte
+//! grows with the profile. `--rounds N` with each of them.
+//! `speed --calls PROFILE SIZE N` or `speed --calls FILE N` only calls the library N times, so that instructions can be
+//! counted; with `--rust-calls` instead of `--calls` it is the Rust that is called.
 
-use std::hint::black_box;
-use std::time::{Duration, Instant};
+use std::path::PathBuf;
+use std::str::FromStr;
 
-use library::call::Memory;
-use library::profiles::PROFILES;
+use library::profiles::{PROFILES, Profile, UNKIND, examples_folder, packed_in};
+use library::timing::{Spread, Subject, Timed, spread};
 use packed::Lent;
 use runs::{arguments, with_deep_stack};
 
 const SIZES: [u32; 4] = [10, 100, 1_000, 4_000];
-/// Calls are repeated until they take this long, at most so often: short rounds are seldom disturbed.
-const LEAST: Duration = Duration::from_micros(100);
-const MOST: u32 = 64;
+const DOUBLING: [u32; 6] = [125, 250, 500, 1_000, 2_000, 4_000];
+const COMPARED: [&str; 3] = [
+    "library, to its first",
+    "Rust, to its first",
+    "library / Rust",
+];
 
 fn main() {
-    let rounds: usize = arguments::value("--rounds", 51);
-    with_deep_stack(move || table(rounds));
+    with_deep_stack(run);
+}
+
+fn run() {
+    let rounds = arguments::value("--rounds", 51).max(1);
+    if let Some(words) = words_behind("--calls") {
+        calls(&words);
+    } else if let Some(words) = words_behind("--rust-calls") {
+        rust_calls(&words);
+    } else if let Some(words) = words_behind("--examples") {
+        let named = words.first().filter(|word| !word.starts_with("--"));
+        examples(named.map_or_else(examples_folder, PathBuf::from), rounds);
+    } else if words_behind("--growth").is_some() {
+        growth(rounds);
+    } else {
+        table(rounds);
+    }
+}
+
+fn words_behind(name: &str) -> Option<Vec<String>> {
+    let mut words = std::env::args().skip_while(|word| word != name);
+    words.next().map(|_| words.collect())
+}
+
+fn all_profiles() -> impl Iterator<Item = Profile> {
+    PROFILES.into_iter().chain(UNKIND)
+}
+
+fn profile(what: &str, size: u32) -> Vec<u8> {
+    let found = all_profiles().find(|(name, _)| *name == what);
+    let (_, make) = found.unwrap_or_else(|| panic!("no profile {what}"));
+    make(size)
+}
+
+fn timed(tree: Vec<u8>) -> Timed {
+    Timed::new(Subject::new(tree).expect("profiles are accepted"))
 }
 
 fn table(rounds: usize) {
-    println!(
-        "| profile | locals | bytes | L, F, C, R | library / Rust, median | least | greatest |"
-    );
-    println!("|---|---|---|---|---|---|---|");
+    heading("profile | locals");
     for (what, profile) in PROFILES {
         for size in SIZES {
-            let tree = profile(size);
-            let needed = model::needed(&tree).expect("profiles are accepted");
-            let ratios = ratios(rounds, &tree, &needed);
-            let Lent {
-                max_locals,
-                max_frames,
-                max_captures,
-                max_references,
-                ..
-            } = needed;
-            println!(
-                "| {what} | {size} | {} | {max_locals}, {max_frames}, {max_captures}, {max_references} \
-                 | {:.2} | {:.2} | {:.2} |",
-                tree.len(),
-                ratios[ratios.len() / 2],
-                ratios[0],
-                ratios[ratios.len() - 1],
-            );
+            row(&format!("{what} | {size}"), timed(profile(size)), rounds);
         }
     }
 }
 
-/// The ratio of each round, smallest first.
-fn ratios(rounds: usize, tree: &[u8], needed: &Lent) -> Vec<f64> {
-    let mut memory = Memory::new(needed, 3);
-    answers_as_the_rust(&mut memory, tree);
-    let expr = plain::read(tree);
-    let mut library = || memory.call(black_box(tree));
-    let mut rust = || plain::analyze(black_box(&expr));
-    let counts = (repeats(&mut library), repeats(&mut rust));
-    let mut ratios: Vec<f64> = (0..rounds.max(1))
-        .map(|_| one_call(counts.0, &mut library) / one_call(counts.1, &mut rust))
-        .collect();
-    ratios.sort_by(f64::total_cmp);
-    ratios
+/// Trees that are refused are left out.
+fn examples(folder: PathBuf, rounds: usize) {
+    heading("example");
+    for (name, tree) in packed_in(&folder) {
+        if let Some(subject) = Subject::new(tree) {
+            row(&name, Timed::new(subject), rounds);
+        }
+    }
 }
 
-/// No figure without the right answer.
-fn answers_as_the_rust(memory: &mut Memory, tree: &[u8]) {
-    memory.call(tree);
-    let seen = memory.seen();
-    assert!(seen.faults.is_empty(), "{:?}", seen.faults);
-    assert!(
-        seen.answer == judge::run(tree),
-        "another answer than the Rust's"
+fn heading(what: &str) {
+    println!("| {what} | bytes | L, F, C, R | library / Rust, median | least | greatest |");
+    println!("|{}", "---|".repeat(what.split('|').count() + 5));
+}
+
+fn row(what: &str, mut timed: Timed, rounds: usize) {
+    let ratio = |[library, rust]: [f64; 2]| library / rust;
+    let Spread {
+        median,
+        least,
+        greatest,
+    } = spread((0..rounds).map(|_| ratio(timed.round())).collect());
+    let Lent {
+        max_locals,
+        max_frames,
+        max_captures,
+        max_references,
+        ..
+    } = timed.subject.needed;
+    println!(
+        "| {what} | {} | {max_locals}, {max_frames}, {max_captures}, {max_references} \
+         | {median:.2} | {least:.2} | {greatest:.2} |",
+        timed.subject.tree.len(),
     );
 }
 
-/// How many calls take the least time.
-fn repeats<T>(work: &mut impl FnMut() -> T) -> u32 {
-    let mut count = 1;
-    while count < MOST && timed(count, work) < LEAST {
-        count *= 2;
+fn growth(rounds: usize) {
+    println!(
+        "| profile | time of a byte | {} |",
+        DOUBLING.map(|size| size.to_string()).join(" | ")
+    );
+    println!("|---|---|{}", "---|".repeat(DOUBLING.len()));
+    for (what, profile) in all_profiles() {
+        let mut sizes = DOUBLING.map(|size| timed(profile(size)));
+        let seen: Vec<_> = (0..rounds).map(|_| compared(&mut sizes)).collect();
+        for (row, who) in COMPARED.into_iter().enumerate() {
+            let figures = |at: usize| seen.iter().map(|round| round[at][row]).collect();
+            let median = |at: usize| format!("{:.2}", spread(figures(at)).median);
+            let medians: Vec<_> = (0..sizes.len()).map(median).collect();
+            println!("| {what} | {who} | {} |", medians.join(" | "));
+        }
     }
-    count
 }
 
-fn one_call<T>(count: u32, work: &mut impl FnMut() -> T) -> f64 {
-    timed(count, work).as_secs_f64() / f64::from(count)
+/// The time of a byte at each size in one round: three ratios.
+fn compared(sizes: &mut [Timed]) -> Vec<[f64; 3]> {
+    let of_a_byte = |timed: &mut Timed| {
+        let bytes = timed.subject.tree.len() as f64;
+        timed.second_round().map(|seconds| seconds / bytes)
+    };
+    let times: Vec<_> = sizes.iter_mut().map(of_a_byte).collect();
+    let [first_library, first_rust] = times[0];
+    let ratios =
+        |[library, rust]: &[f64; 2]| [library / first_library, rust / first_rust, library / rust];
+    times.iter().map(ratios).collect()
 }
 
-/// What the calls give is dropped when the clock has stopped.
-fn timed<T>(count: u32, work: &mut impl FnMut() -> T) -> Duration {
-    let mut given = Vec::with_capacity(count as usize);
-    let begun = Instant::now();
-    for _ in 0..count {
-        given.push(black_box(work()));
-    }
-    begun.elapsed()
+/// Only the library's calls, and a look at what the last one answered.
+fn calls(words: &[String]) {
+    let (mut subject, count) = to_call(words);
+    subject.library(count);
+    subject.was_answered_as_by_the_rust();
+}
+
+fn rust_calls(words: &[String]) {
+    let (mut subject, count) = to_call(words);
+    subject.rust(count);
+}
+
+fn to_call(words: &[String]) -> (Subject, usize) {
+    let (tree, count) = match words {
+        [what, size, count] => (profile(what, number(size)), count),
+        [file, count] => (
+            std::fs::read(file).unwrap_or_else(|e| panic!("{file}: {e}")),
+            count,
+        ),
+        _ => panic!("PROFILE SIZE N, or FILE N"),
+    };
+    let subject = Subject::new(tree).expect("a tree that is accepted");
+    (subject, number(count))
+}
+
+fn number<T: FromStr>(word: &str) -> T {
+    word.parse()
+        .unwrap_or_else(|_| panic!("{word} is no number"))
 }
