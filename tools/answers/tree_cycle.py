@@ -126,24 +126,26 @@ answers={C:
  ('.*','search needs')]}
 W='use Rattle.tree.proofs.'
 SP='use Rattle.tree.specs.'
+R='use Rattle.marks.'
+K='use Rattle.skipping.'
 base=['use borrow.Author.Needs.{needs}','use native.Mathlib.Omega.{arith}']
-SZU=['use Rattle.rules.specs.Outcome.{choose}','use Rattle.rules.specs.Numbers.{code}','use Rattle.rules.specs.Records.{size-of, numbers-of, widths, width, fields}',SP+'Marks.{mark-of, find-mark, marks}']
+SZU=['use Rattle.rules.specs.Outcome.{choose}','use Rattle.rules.specs.Numbers.{code}','use Rattle.rules.specs.Records.{size-of, numbers-of, widths, width, fields}',R+'specs.Marks.{mark-of, find-mark, marks}']
 NAT=['use Prim.Native.Nat.{ℕ}']
 NATM=['use Prim.Native.Nat.{ℕ, _-_}']
 path=lambda *n:['use mathlib.Core.Path.{'+', '.join(n)+'}']
 walks=lambda *n:[W+'Walks.{'+', '.join(n)+'}']
 turns=[W+'Turns.{Turn, turn-begin, turn-stop, turn-next, turn-end}']
-room=['use lib.ListN.{length}',W+'Laws.{room-there, room-missing}']
+room=['use lib.ListN.{length}',R+'proofs.Laws.{room-there, room-missing}']
 uses={
 C+'/Measures':['use Prim.Native.Nat.{ℕ, _+_, _*_, _<_}'],
-C+'/Expr':NAT+path('sym','_∙_')+base+['use lib.ListN.{length}','use Rattle.rules.specs.Numbers.{code}','use Rattle.rules.specs.FirstWalk.{any-expression, rows}',SP+'Places.{opened-at, plain-past}',W+'Laws.{room-there, room-missing, all-none, _also_}',W+'Definition.{expr-short, '+', '.join('expr-'+a for a in arms)+'}']+walks('by-mark','expr-unknown'),
+C+'/Expr':NAT+path('sym','_∙_')+base+['use lib.ListN.{length}','use Rattle.rules.specs.Numbers.{code}','use Rattle.rules.specs.FirstWalk.{any-expression, rows}',SP+'Places.{opened-at, plain-past}',R+'proofs.Laws.{room-there, room-missing, all-none, _also_}',W+'Definition.{expr-short, '+', '.join('expr-'+a for a in arms)+'}']+walks('by-mark','expr-unknown'),
 C+'/Only':NAT+path('sym','_∙_')+base+room+[W+'Definition.{lone-short, lone-other, lone-here}'],
-C+'/Exprs':NATM+base+['use Rattle.rules.specs.FirstWalk.{any-expression}',SP+'Places.{over, expr-past, exprs-past}']+turns,
-C+'/Many':NATM+base+[SP+'Places.{over, held-past}']+turns,
-C+'/Binds':NATM+base+[SP+'Places.{over, bind-past}']+turns,
+C+'/Exprs':NATM+base+['use Rattle.rules.specs.FirstWalk.{any-expression}',K+'specs.Places.{over, expr-past, exprs-past}']+turns,
+C+'/Many':NATM+base+[K+'specs.Places.{over, held-past}']+turns,
+C+'/Binds':NATM+base+[K+'specs.Places.{over}',SP+'Places.{bind-past}']+turns,
 C+'/Plain':NAT+base+walks('plain-refused','plain-went'),
 C+'/Held':NAT+base+walks('held-refused','held-went'),
-C+'/Array':NAT+path('sym','_∙_')+base+SZU+[W+'Leaves.{constants-fit}']+walks('array-refused','array-constant','array-went'),
+C+'/Array':NAT+path('sym','_∙_')+base+SZU+[R+'proofs.Turns.{constants-fit}']+walks('array-refused','array-constant','array-went'),
 C+'/Extended':NAT+path('refl')+base+['use Rattle.rules.specs.Numbers.{code}',SP+'Places.{an-object}']+walks('extended-refused','base-refused','extended-went'),
 C+'/Local':NAT+base+SZU+walks('local-refused','binds-refused','local-went'),
 C+'/Function':NAT+base+SZU+walks('function-refused','params-refused','function-went'),

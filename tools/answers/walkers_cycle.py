@@ -22,6 +22,7 @@ def OM(*f): return f'omega (arith, {", ".join(f)}, {R} .short)'
 LEVEL=f'(expr-level {S} {N} any-expression {AT} ({A} .read))'
 def LESS(level): return f'omega (arith, c@pre .0, {level})'
 SAMELEVEL='omega (arith, c@pre .0)'
+def ITEMS_LESS(level,nest): return f'rank-falls {S} _ _ {nest} (omega (arith, c@pre .0, {level}))'
 def call(less,ready,acc): return f'({less}, ({ready}, {acc}))'
 def on(ready,le='omega arith',fewer='omega arith'): return f'(ready-on ({le}) ({fewer}) {ready})'
 def subst_n(form,e,proof): return f'(subst (λ (k : ℕ). {form}) (sym {e}) {proof})'
@@ -42,7 +43,7 @@ array=[
  ('on-array-open-frame-requires',f'{R} .fit .frames-long'),
  ('on-array-returns-2',f'λ ν. array-unopened {ARR} {LEFT} {OPENED} {fact("enum-told")} (unopened (c@not-opened .ensures) {fact("enum-told")})'),
  ('on-array-sub-on-items',f'omega (arith, {LEVEL})'),
- ('on-array-on-items-requires',call(LESS(LEVEL),on(f'(ready-opened {AT} false {R} {OPENED} {fact("opened")})'),subst_n(f'Accepted (items-at {S} ({N} - 1) k ({AT} + 6))',EN,f'(array-items {SNA} {RM} (told {S} {AT} {EN} {ET} {LEFT}))'))),
+ ('on-array-on-items-requires',call(ITEMS_LESS(LEVEL,f'({N} - 1)'),on(f'(ready-opened {AT} false {R} {OPENED} {fact("opened")})'),subst_n(f'Accepted (items-at {S} ({N} - 1) k ({AT} + 6))',EN,f'(array-items {SNA} {RM} (told {S} {AT} {EN} {ET} {LEFT}))'))),
  ('on-array-returns-3',f'λ ν. array-stopped {ARR} {LEFT} {OPENED} {fact("opened")} {SAME} (c@on-items .ensures) {fact("enum-told2")}'),
  ('on-array-close-array-requires',f'{fitof("on-items",fact("w"))} .frames-kept'),
  ('on-array-returns-4',f'λ ν. array-ended {ARR} {LEFT} {OPENED} {fact("opened")} {SAME} (c@on-items .ensures) {fact("w")} {LONG("on-items")} (c@close-array .ensures .walks _ _ _ _ {fitof("on-items",fact("w"))})'),
@@ -54,7 +55,7 @@ plain=[
  ('on-plain-(sub-children|part-children-start|part-children-end)',f'omega (arith, plain-fits {A})'),
  ('on-plain-add-below',OM(f'plain-fits {A}','c@size-of .ensures .0')),
  ('on-plain-sub-on-items',f'omega (arith, {LEVEL})'),
- ('on-plain-on-items-requires',call(LESS(LEVEL),on(R),f'plain-children {A} (children-here {S} (c@args .mark) {AT} (c@children .ensures)) (c@size-of .ensures .0)')),
+ ('on-plain-on-items-requires',call(ITEMS_LESS(LEVEL,f'({N} - 1)'),on(R),f'plain-children {A} (children-here {S} (c@args .mark) {AT} (c@children .ensures)) (c@size-of .ensures .0)')),
  ('on-plain-returns',f'λ ν. plain-stopped {PARGS} {fact("enum-told")}'),
  ('on-plain-copy-record-requires',f'(plain-fits {A}, plain-marked {A})'),
  ('on-plain-returns-2',f'λ ν. plain-ended {PARGS} {fact("w")} {LONG("on-items")} (c@copy-record .ensures .walks {L} _ _ _ _ _ {fitof("on-items",fact("w"))})'),
@@ -168,7 +169,7 @@ assertions=[
  ('on-assertions-returns',f'assertions-nothing {AS} {TAKEN} {FIT}'),
  ('on-assertions-open-frame-requires',f'{R} .fit .frames-long'),
  ('on-assertions-returns-2',f'assertions-unopened {ASR} {fact("enum-told")} (unopened (c@not-opened .ensures) {fact("enum-told")})'),
- ('on-assertions-on-items-requires',call(SAMELEVEL,f'(ready-opened {AT} false {R} {OPENED} {fact("opened")})',A)),
+ ('on-assertions-on-items-requires',call(f'rank-falls {S} _ _ {N} (omega (arith, c@pre .0))',f'(ready-opened {AT} false {R} {OPENED} {fact("opened")})',A)),
  ('on-assertions-returns-3',f'assertions-stopped {ASR} {fact("opened")} {SAME} (c@on-items .ensures) {fact("enum-told2")}'),
  ('on-assertions-close-assertions-requires',f'{fitof("on-items",W)} .frames-kept'),
  ('on-assertions-returns-4',f'assertions-ended {ASR} {fact("opened")} {SAME} (c@on-items .ensures) {W} {LONG("on-items")} (c@close-assertions .ensures .walks _ _ _ _ {fitof("on-items",W)})'),
@@ -208,8 +209,34 @@ def sloop(m,one,unroll,acc,extra):
      (f'{m}-loop-again',f'specs-next {U} {INV} {TEST} (c@{one} .ensures) {fact("w")} {LONGS(one)}'),
      (f'{m}-returns-2',f'specs-end {U} {INV} (c@loop-test .left)')]
 FEWK=lambda short: f'omega (arith, {INV} .few-kept, {TEST}, {short}, {R} .short)'
-ADD_I=[(f'walk-{k}-add-i','omega (arith, c@loop-test .taken, c@fits .n)') for k in ['items','heads','binds','params','values']]
-loops=ADD_I+(loop('on-items','on-item','items-unroll',0)+loop('on-heads','on-head','heads-unroll',0)
+ADD_I=[(f'on-{k}-add-i','omega (arith, c@loop-test .taken, c@fits .n)') for k in ['items','heads','binds','params','values']]
+MKI='(c@mark-at .ensures .0)'
+LEAF=f'(sym (c@is-leaf .ensures) ∙ c@if1 .taken)'
+BRANCH=f'(sym (c@is-leaf .ensures) ∙ c@if1 .left)'
+UI=f'(items-unroll {S} {N} {H})'
+SIX=['out','diagnostics','locals','frames','captures','references']
+def six(x): return '(buffers '+' '.join(f'(c@{x} .{b})' for b in SIX)+')'
+def came(calls,after):
+    # the call is behind its arguments, and behind it what is known of the buffers; the equations of the six and of the answer come last
+    n=calls+1+after
+    here=f'x .{calls}'
+    eqs=' '.join(f'(x .{n+k})' for k in range(7))
+    return here,eqs
+def leaf_longs(h): return '(record { '+'; '.join(f'{b} = '+('refl' if b in('frames','references') else h+' .kept'+' .1'*(i+1)+' .0') for i,b in enumerate(SIX))+' })'
+def item_longs(h): return '(record { '+'; '.join(f'{b} = '+h+' .kept'+' .1'*(i+1)+' .0' for i,b in enumerate(SIX))+' })'
+LH,LE=came(7,8); IH,IE=came(7,12)
+STEP=f'(either-turned {L} {six("loop")} (c@loop .state) (λ L σ. run-items {S} L {N} 1 (c@loop .p) {H} σ) (c@if1 .w) {six("if1")} (c@if1 .came) (λ x. turned ({LH} .ensures) {leaf_longs(LH)} {LE}) (λ x. turned ({IH} .ensures) {item_longs(IH)} {IE}))'
+OTHER=f'(ap is-leaf (sym {MKI}) ∙ {BRANCH})'
+MORE=f'(rank-more {S} {AT} (c@args .n) (λ one. subst (λ (q : ℕ). is-leaf (code-at {S} q) ≡ false) ({INV} .begun (omega (arith, one, {TEST}))) {OTHER}))'
+items_loop=[('on-items-μ-loop','n - i'),
+ ('on-items-loop-holds',f'turn-begin {UI} {A} {R}'),
+ ('on-items-on-leaf-requires',f'(({INV} .ready), record {{ read = turn-first {UI} {INV} {TEST}; marked = sym {MKI}; leaf = {LEAF} }})'),
+ ('on-items-on-item-requires',call(f'omega (arith, c@pre .0, {MORE})',f'({INV} .ready)',f'turn-first {UI} {INV} {TEST}')),
+ ('on-items-returns',f'turn-stop {UI} {INV} {TEST} ({STEP} .walks) {fact("w2")}'),
+ ('on-items-add-i','omega (arith, c@loop-test .taken, c@fits .n)'),
+ ('on-items-loop-again',f'turn-next {UI} {INV} {TEST} ({STEP} .walks) {fact("w")} ({STEP} .longs)'),
+ ('on-items-returns-2',f'turn-end {UI} {INV} (c@loop-test .left)')]
+loops=ADD_I+(items_loop+loop('on-heads','on-head','heads-unroll',0)
  +sloop('on-binds','on-bind',f'binds-unroll {S} {N} (c@args .base) {H}',f'({A} .0)',lambda x:f'({x}, {FEWK(f"binds-short {S} {N} (c@args .n) {AT} ({A} .0)")}, {A} .1)')
  +sloop('on-params','on-param',f'params-unroll {S} {N} {H}',A,lambda x:f'({x}, {FEWK(f"params-short {S} {N} (c@args .n) {AT} {A}")})')
  +[('on-values-μ-loop','n - i'),
@@ -267,22 +294,11 @@ KEPT=f'({FIT} .frames-kept, {FIT} .captures-long, omega (arith, {FIT} .locals-lo
 MK='(c@mark-at .ensures .0)'
 def marked(k): return f'(sym {MK} ∙ (c@match .{k}))'
 ITEM=f'{S} {N} {AT} {A} (sym {MK}) {H}'
-# an item that is a whole expression, known by its mark: it holds nothing, so it stands where an expression may
-NOT_HELD='(λ e. omega (arith, e)) (λ e. omega (arith, e)) (λ e. omega (arith, e))'
-def alone(k): return f'(not-held {S} (limits-of (c@args .limits) [] []) {N} {AT} {A} _ {marked(k)} {NOT_HELD})'
-def atom(k,law,w): return f'item-plain {S} {N} {AT} {A} {marked(k)} {H} {NOT_HELD} ({law} {SNA} {alone(k)} unnamed {H} {marked(k)} ({w}))'
 HELD=['an-argument','a-part','an-assertion']
-items=[(f'on-item-on-held-requires'+suffix,call(SAMELEVEL,R,f'record {{ read = {A}; marked = sym {MK}; holder = {holder} (c@match .keys{key}) }}')) for suffix,holder,key in zip(['','-2','-3'],HELD,[4,5,6])]+[
- ('on-item-analyze-identity-requires',f'((identity-size {SNA} {alone("keys1")} {marked("keys1")}, identity-kind {SNA} {alone("keys1")} {marked("keys1")}, stands {R}), {KEPT})'),
- ('on-item-add-copy-record',OM(f'constant-size {SNA} {alone("keys2")} {marked("keys2")}')),
- ('on-item-copy-record-requires',('CONST',f'(constant-size {SNA} {alone("keys2")} {marked("keys2")}, {marked("keys2")})')),
- ('on-item-analyze-variable-requires',f'((variable-size {SNA} {alone("keys3")} {marked("keys3")}, omega (arith, {FIT} .locals-long, {FIT} .few-locals)), ({FIT} .frames-kept, {FIT} .captures-long))'),
+items=[(f'on-item-on-held-requires'+suffix,call(SAMELEVEL,R,f'record {{ read = {A}; marked = sym {MK}; holder = {holder} (c@match .keys{key}) }}')) for suffix,holder,key in zip(['','-2','-3'],HELD,[1,2,3])]+[
  ('on-item-analyze-requires',call(SAMELEVEL,R,f'not-held {S} (limits-of (c@args .limits) [] []) {N} {AT} {A} _ (sym {MK}) (λ e. c@match .rest .0 .0 .1 e) (λ e. c@match .rest .0 .1 e) (λ e. c@match .rest .1 e)')),
- ('on-item-returns',atom('keys1','identity-returns',f'c@analyze-identity .ensures .walks _ {FIT}')),
- ('on-item-returns-2',('CONST',atom('keys2','constant-returns',f'c@copy-record .ensures .walks {L} _ _ _ _ _ {FIT}'))),
- ('on-item-returns-3',atom('keys3','variable-returns',f'c@analyze-variable .ensures .walks _ {FIT}')),
- ('on-item-returns-4','c@on-held .ensures'),('on-item-returns-5','c@on-held2 .ensures'),('on-item-returns-6','c@on-held3 .ensures'),
- ('on-item-returns-7',f'item-plain {ITEM} (λ e. c@match .rest .0 .0 .1 e) (λ e. c@match .rest .0 .1 e) (λ e. c@match .rest .1 e) (c@analyze .ensures)'),
+ ('on-item-returns','c@on-held .ensures'),('on-item-returns-2','c@on-held2 .ensures'),('on-item-returns-3','c@on-held3 .ensures'),
+ ('on-item-returns-4',f'item-plain {ITEM} (λ e. c@match .rest .0 .0 .1 e) (λ e. c@match .rest .0 .1 e) (λ e. c@match .rest .1 e) (c@analyze .ensures)'),
 ]
 HL=f'{S} {N} {AT} ({A} .read) ({A} .marked) {H} ({A} .holder) (children-here {S} (c@args .mark) {AT} (c@children .ensures))'
 HG=f'{S} (limits-of (c@args .limits) [] []) {N} {AT} ({A} .read) (c@args .mark) ({A} .marked) (the-holder ({A} .holder))'
@@ -300,38 +316,29 @@ held=[
  ('on-held-returns-4',f'held-two-ended {HL} (c@analyze .ensures) {LEFT} {fact("first")} {LONG("analyze")} (c@analyze2 .ensures) {fact("second")} {LONG("analyze2")} (c@copy-record2 .ensures .walks {L} _ _ _ _ _ {fitof("analyze2",fact("second"))})'),
 ]
 # expressions
-EX=f'{SNA} {A} (naming-of (c@args .naming)) {H}'
 def there(k): return f'(record {{ read = {A}; marked = {marked(k)} }})'
 exprs=[
- ('analyze-analyze-identity-requires',f'((identity-size {SNA} {A} {marked("keys1")}, identity-kind {SNA} {A} {marked("keys1")}, stands {R}), {KEPT})'),
- ('analyze-add-copy-record',OM(f'constant-size {SNA} {A} {marked("keys2")}')),
- ('analyze-copy-record-requires',('CONST',f'(constant-size {SNA} {A} {marked("keys2")}, {marked("keys2")})')),
- ('analyze-analyze-variable-requires',f'((variable-size {SNA} {A} {marked("keys3")}, omega (arith, {FIT} .locals-long, {FIT} .few-locals)), ({FIT} .frames-kept, {FIT} .captures-long))'),
- ('analyze-on-array-requires',call(SAMELEVEL,R,there('keys4'))),
- ('analyze-analyze-import-requires',f'import-size {SNA} {A} {marked("keys5")}'),
- ('analyze-on-local-requires',call(SAMELEVEL,R,there('keys6'))),
- ('analyze-on-function-requires',call(SAMELEVEL,R,there('keys7'))),
- ('analyze-on-object-requires',call(SAMELEVEL,R,there('keys8'))),
- ('analyze-on-plain-requires',call(SAMELEVEL,R,f'record {{ read = {A}; marked = sym {MK}; not-identity = (λ e. c@match .rest .0 .0 .0 .0 .0 .0 .0 .1 e); not-constant = (λ e. c@match .rest .0 .0 .0 .0 .0 .0 .1 e); not-variable = (λ e. c@match .rest .0 .0 .0 .0 .0 .1 e); not-array = (λ e. c@match .rest .0 .0 .0 .0 .1 e); not-import = (λ e. c@match .rest .0 .0 .0 .1 e); not-local = (λ e. c@match .rest .0 .0 .1 e); not-function = (λ e. c@match .rest .0 .1 e); not-object = (λ e. c@match .rest .1 e) }}')),
- ('analyze-returns',f'identity-returns {EX} {marked("keys1")} (c@analyze-identity .ensures .walks _ {FIT})'),
- ('analyze-returns-2',('CONST',f'constant-returns {EX} {marked("keys2")} (c@copy-record .ensures .walks {L} _ _ _ _ _ {FIT})')),
- ('analyze-returns-3',f'variable-returns {EX} {marked("keys3")} (c@analyze-variable .ensures .walks _ {FIT})'),
- ('analyze-returns-4','c@on-array .ensures _'),
- ('analyze-returns-5',f'import-returns {EX} {marked("keys5")} (c@analyze-import .ensures .walks {L} _ _ _ _ {FIT})'),
- ('analyze-returns-6','c@on-local .ensures _'),
- ('analyze-returns-7','c@on-function .ensures'),
- ('analyze-returns-8','c@on-object .ensures _'),
- ('analyze-returns-9','c@on-plain .ensures _'),
+ ('analyze-on-items-requires',call(f'omega (arith, c@pre .0, rank-one {S} {AT} (sym {MK}) {LEAF})',R,f'leaf-item {SNA} (sym {MK}) {LEAF} {A}')),
+ ('analyze-on-array-requires',call(SAMELEVEL,R,there('keys1'))),
+ ('analyze-on-local-requires',call(SAMELEVEL,R,there('keys2'))),
+ ('analyze-on-function-requires',call(SAMELEVEL,R,there('keys3'))),
+ ('analyze-on-object-requires',call(SAMELEVEL,R,there('keys4'))),
+ ('analyze-on-plain-requires',call(SAMELEVEL,R,f'record {{ read = {A}; marked = sym {MK}; not-identity = no-identity {BRANCH}; not-constant = no-constant {BRANCH}; not-variable = no-variable {BRANCH}; not-array = (λ e. c@match .rest .0 .0 .0 .1 e); not-import = no-import {BRANCH}; not-local = (λ e. c@match .rest .0 .0 .1 e); not-function = (λ e. c@match .rest .0 .1 e); not-object = (λ e. c@match .rest .1 e) }}')),
+ ('analyze-returns',f'leaf-answered {SNA} (sym {MK}) {H} {LEAF} {A} (naming-of (c@args .naming)) (c@on-items .ensures)'),
+ ('analyze-returns-2','c@on-array .ensures _'),
+ ('analyze-returns-3','c@on-local .ensures _'),
+ ('analyze-returns-4','c@on-function .ensures'),
+ ('analyze-returns-5','c@on-object .ensures _'),
+ ('analyze-returns-6','c@on-plain .ensures _'),
 ]
 
 LISTS=dict(items=('Accepted (items-at tree nest n p)','run-items tree L nest n p (place-of here) σ'),heads=('Accepted (heads-at tree nest n p)','run-heads tree L nest n p (place-of here) σ'))
 B0L='(buffers out₀ diagnostics₀ locals₀ frames₀ captures₀ references₀)'; BL='(buffers out diagnostics locals frames captures references)'
-invs=[(f'walk-{k}-Inv-loop',f'Turn (λ n p. {a}) (λ n p L σ. {r}) limits tree nest here {B0L} state₀ at n {BL} state p i') for k,(a,r) in LISTS.items()]
+invs=[(f'on-{k}-Inv-loop',f'Turn (λ n p. {a}) (λ n p L σ. {r}) limits tree nest here {B0L} state₀ at n {BL} state p i') for k,(a,r) in LISTS.items()]
 invs+=[('on-binds-Inv-loop',f'Turn-specs (λ n p. Accepted (binds-at tree nest n p)) (λ n p kept L σ. run-binds tree L nest n p base kept (place-of here) σ) limits tree nest here {B0L} state₀ at n {BL} state p kept i'),
  ('on-params-Inv-loop',f'Turn-specs (λ n p. Accepted (params-at tree nest n p)) (λ n p kept L σ. run-params tree L nest n p kept (place-of here) σ) limits tree nest here {B0L} state₀ at n {BL} state p kept i'),
  ('on-values-Inv-loop',f'Turn-values limits tree nest here {B0L} state₀ heads at n {BL} state head p i')]
-CODES=['analyze-analyze-identity-requires','analyze-analyze-variable-requires','analyze-analyze-import-requires','analyze-walk-(array|local|object|plain)-requires','analyze-on-function-requires','analyze-add-copy-record','analyze-returns.*','on-item-.*']
-UNFOLD={r'on-local-(returns.*|on-binds-requires|settle-frame-requires|analyze-requires-2|finish-local-requires)':'place-of naming-of',r'on-function-(returns.*|on-params-requires|settle-frame-requires|analyze-requires|finish-function-requires)':'place-of naming-of',r'on-local-analyze-requires':'naming-of',r'on-held-.*':'naming-of',r'on-item-returns-7':'naming-of code',r'on-head-.*':'naming-of',r'on-param-.*':'naming-of',r'on-value-.*':'naming-of',r'on-bind-.*':'naming-of'}
+UNFOLD={r'on-local-(returns.*|on-binds-requires|settle-frame-requires|analyze-requires-2|finish-local-requires)':'place-of naming-of',r'on-function-(returns.*|on-params-requires|settle-frame-requires|analyze-requires|finish-function-requires)':'place-of naming-of',r'on-local-analyze-requires':'naming-of',r'on-held-.*':'naming-of',r'on-item-returns-4':'naming-of code',r'on-head-.*':'naming-of',r'on-param-.*':'naming-of',r'on-value-.*':'naming-of',r'on-bind-.*':'naming-of'}
 def unfolded(rs):
     out=[]
     for pat,txt in rs:
@@ -347,7 +354,7 @@ def coded(rs):
     for r in rs:
         pat,txt=r
         if isinstance(txt,tuple) and txt[0]=='CONST': out.append((pat,('code mark-of find-mark marks choose size-of numbers-of widths width fields',txt[1])))
-        elif isinstance(txt,str) and 'c@match' in txt: out.append((pat,('code'+(' naming-of' if pat=='on-item-returns-7' else ''),txt)))
+        elif isinstance(txt,str) and 'c@match' in txt: out.append((pat,('code'+(' naming-of' if pat=='on-item-returns-4' else ''),txt)))
         else: out.append(r)
     return out
 SLICES={'begin-local':['tree','diagnostics','locals','frames'],'begin-function':['tree','diagnostics','locals','frames'],'begin-object':['tree','diagnostics','locals','frames'],'open-frame':['frames'],'open-value':['frames'],'settle-frame':['locals'],
@@ -383,14 +390,17 @@ def length_of(member):
             typ=fs['before'].split(' ')[0]; p+=' .before'
     return answer
 LENGTHS=lengths(os.environ['GENERATED'])
-answers={C:[(f'μ-{k}' ,f'16 * {NEST}'+(f' + {v}' if v else '')) for k,v in rank.items()]+invs
+JOINED=[('on-items-same-length'+('' if k==0 else f'-{k+1}'),f'{STEP} .longs .{b} ∙ {INV} .longs .{b}') for k,b in enumerate(SIX)]
+# a walk over one leaf is called for by `analyze` itself, so that its rank is told by what stands there
+ITEMS_RANK="items-rank (a .0 .now) (a"+' .1'*9+" .0) (a"+' .1'*11+" .0)"
+answers={C:JOINED+[('μ-on-items',f'16 * {NEST} + {ITEMS_RANK}')]+[(f'μ-{k}' ,f'16 * {NEST}'+(f' + {v}' if v else '')) for k,v in rank.items()]+invs
  +[(n.replace('_','-')+r'-same-length(-\d+)?',length_of(n.replace('_','-'))) for n in names]+coded(exprs+items)+unfolded(held+array+plain+local+function+objects+members+fields+assertions+values+loops+heads+binds+params)
  +[('.*','search needs')]}
 # every name that an answer may use; tools/prune.py takes those out that a module does not use
 J='use Rattle.joins.proofs.'
-common=['use Prim.Native.Nat.{ℕ, _+_, _-_, _*_, _<_, _≤_}','use borrow.Author.Needs.{needs}','use native.Mathlib.Omega.{arith}','use mathlib.Core.Bool.{false}','use mathlib.Core.List.{[]}','use mathlib.Core.Path.{_≡_, refl, sym, _∙_, ap, subst}','use lib.ListN.{length}',
+common=['use Prim.Native.Nat.{ℕ, _+_, _-_, _*_, _<_, _≤_}','use borrow.Author.Needs.{needs}','use native.Mathlib.Omega.{arith}','use mathlib.Core.Bool.{true, false}','use mathlib.Core.List.{[]}','use mathlib.Core.Path.{_≡_, refl, sym, _∙_, ap, subst}','use lib.ListN.{length}',
 'use Rattle.rules.specs.Outcome.{ok, choose}','use Rattle.rules.specs.Numbers.{code, code-at}','use Rattle.rules.specs.Records.{size-of, numbers-of, widths, width, fields}','use Rattle.rules.specs.FirstWalk.{any-expression, expr-at}','use Rattle.rules.specs.Walk as walk','use Rattle.rules.specs.Walk.{unnamed}',
-'use Rattle.tree.specs.Marks.{mark-of, find-mark, marks}','use Rattle.runs.specs.Run.{Accepted, items-at, binds-at, params-at, heads-at, run-items, run-heads, run-binds, run-params}',
+'use Rattle.marks.specs.Marks.{mark-of, find-mark, marks}','use Rattle.runs.specs.Run.{Accepted, items-at, binds-at, params-at, heads-at, run-items, run-heads, run-binds, run-params}',
 'use Rattle.runs.proofs.Reading.{expr-level}',
 'use Rattle.runs.proofs.Expressions.{identity-size, identity-kind, constant-size, variable-size, import-size, array-size, constants-size, array-items, local-size, local-only-body, function-size, function-first-size, object-size}',
 'use Rattle.runs.proofs.Holders.{held-marked, held-sized, held-size, held-first, not-held}',
@@ -403,11 +413,12 @@ J+'Readiness.{ready-on}',
 J+'Onward.{ready-expr, ready-assertions, ready-opened, ready-value, ready-local, ready-function, ready-object, ready-heads, ready-settled, longer-value}',
 J+'Asking.{opened, settleable, stands, fitting, locals-counted, references-counted, written-counted}',
 J+'Stages.{children-here, plain-children, plain-fits, plain-marked, stage-settleable, stage-body, stage-ends, local-binds-there, local-stage, function-params-there, function-stage, object-heads-there, object-members, members-binds-there, members-stage, members-end-asks, fields-assertions, fields-values, static-told, held-second-there}',
-J+'Turns.{Turn, turn-begin, turn-end, turn-first, turn-stop, turn-next, Turn-specs, specs-begin, specs-end, specs-first, specs-stops, specs-next, Turn-values, values-begin, values-end, turn-value, turn-head-fits, values-stops, values-turn, items-unroll, heads-unroll, binds-unroll, params-unroll}',
+'use Rattle.leaves.specs.Leaves.{is-leaf, items-rank}','use Rattle.leaves.proofs.Laws.{rank-one, rank-more, rank-falls, leaf-item, leaf-answered, no-identity, no-constant, no-variable, no-import}',
+J+'Turns.{Turn, turned, either-turned, turn-begin, turn-end, turn-first, turn-stop, turn-next, Turn-specs, specs-begin, specs-end, specs-first, specs-stops, specs-next, Turn-values, values-begin, values-end, turn-value, turn-head-fits, values-stops, values-turn, items-unroll, heads-unroll, binds-unroll, params-unroll}',
 J+'Returns.{told, the-holder, identity-returns, constant-returns, variable-returns, import-returns, array-constant, array-unopened, array-stopped, array-ended, plain-stopped, plain-ended, local-only, local-unbegun, local-binds-stopped, local-body-stopped, local-ended}',
 J+'Returns.{function-unbegun, function-params-stopped, function-body-stopped, function-ended, object-heads-stopped, object-ended, members-unbegun, members-binds-stopped, members-fields-stopped, members-ended, fields-stopped, fields-ended, assertions-nothing, assertions-unopened, assertions-stopped, assertions-ended}',
 J+'Returns.{value-unopened, value-stopped, value-ended, head-alone, head-stopped, head-ended, bind-unopened, bind-stopped, bind-ended, param-alone, param-unopened, param-stopped, param-ended, item-plain, held-first-stopped, held-one-ended, held-second-stopped, held-two-ended}']
 about={'Analyze':'an expression','OnFunction':'a function','OnMembers':"an object's members",'OnArray':'an array','OnAssertions':"an object's assertions",'OnBind':'a bind','OnBinds':'binds','OnFields':"an object's assertions and values",'OnHead':"a field's head",'OnHeads':'heads','OnHeld':'a record that holds expressions','OnItem':'an item','OnItems':'items','OnLocal':'a local','OnObject':'an object','OnParam':'a parameter','OnParams':'parameters','OnPlain':'a record that opens no frame','OnValue':"a field's value",'OnValues':'values'}
 comments={C+'/'+m:[f'-- The walk over {about[m]}: each need of its code, answered from the laws of joins. Assumes nothing.'] for m in about}
 uses={C+'/'+m:common for m in about}
-uses[C+'/Measures']=['use Prim.Native.Nat.{ℕ, _+_, _*_, _<_}']
+uses[C+'/Measures']=['use Prim.Native.Nat.{ℕ, _+_, _*_, _<_}','use Rattle.leaves.specs.Leaves.{items-rank}']

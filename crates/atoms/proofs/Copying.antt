@@ -3,11 +3,12 @@ use Prim.Native.Nat.{ℕ, zero, suc, _+_, _*_, _-_, _≤_, _<_}
 use mathlib.Core.Bool.{true, false}
 use mathlib.Core.List.{List, [], _∷_, _++_}
 use mathlib.Core.Path.{_≡_, refl, sym, ap, _∙_}
+use native.Mathlib.Nat.{add-zero}
 use native.Mathlib.Numerals.{add-one}
 use native.Mathlib.Omega.{arith}
 use borrow.Author.Tests.{leb-true, leb-false}
 use lib.ListN.{length, getD, set, take, drop, length-append, length-drop}
-use lib.Seq.{getD-drop, take-at, take-suc, length-take-le, sets, sets-eq}
+use lib.Seq.{getD-drop, drop-drop, take-add, take-at, take-suc, length-take-le, sets, sets-eq}
 use lib.Dec.{leb}
 use Rattle.rules.specs.Numbers.{Mark, AC, code, code-at, mark-bytes, number-at, numbers-at, number-bytes, numbers-bytes, record-bytes}
 use Rattle.rules.specs.Records.{numbers-of, size-of}
@@ -16,11 +17,11 @@ use Rattle.rules.specs.State as rules
 use Rattle.rules.specs.Writing as writing
 use Rattle.rules.proofs.Lists.{Piece, piece-then}
 use Rattle.rules.proofs.Spelling.{numbers-spelled, mark-spelled}
-use Rattle.packed.specs.Put.{put, Put}
-use Rattle.packed.specs.declared.Written.{Written}
-use Rattle.packed.specs.declared.Written.the-variants as written-as
-use Rattle.packed.proofs.Laws.{sets-append, length-numbers-bytes, numbers-bytes-snoc}
-use Rattle.tree.specs.Marks.{mark-of}
+use Rattle.putting.specs.Put.{put, Put}
+use Rattle.putting.specs.declared.Written.{Written}
+use Rattle.putting.specs.declared.Written.the-variants as written-as
+use Rattle.putting.proofs.Laws.{sets-append, length-numbers-bytes, numbers-bytes-snoc}
+use Rattle.marks.specs.Marks.{mark-of}
 use Rattle.runs.specs.Steps.{values-from, copied, constants-steps}
 use Rattle.state.specs.Seen.{buffers, stack, Fit}
 use Rattle.state.specs.Walks.{Steps}
@@ -31,7 +32,7 @@ use Rattle.state.specs.declared.Walked.the-variants as walked-as
 use Rattle.writing.specs.Answers.{Behind}
 use Rattle.writing.proofs.Laws.{put-behind, out-to, emit-wrote, emit-full}
 use Rattle.writing.proofs.Closing.{behind-more}
-use Rattle.atoms.specs.Answers.{behind, RecordCopied, ConstantsEmitted}
+use Rattle.atoms.specs.Answers.{behind, RecordCopied, ConstantsEmitted, Numbers}
 use Rattle.atoms.proofs.Laws.{walks-behind}
 
 -- Bytes one after another
@@ -47,6 +48,36 @@ byte-more l used s at i n more within =
     ∙ ap (λ (k : ℕ). set (sets l used (take i (drop at s))) k (getD (drop at s) i 0)) e
     ∙ sets-append l used (take i (drop at s)) (getD (drop at s) i 0 ∷ [])
     ∙ ap (λ (bs : List ℕ). sets l used bs) (sym (take-suc (drop at s) i 0 inside) ∙ ap (λ (k : ℕ). take k (drop at s)) (sym (add-one i)))
+
+-- the first two, and the first four
+module _ (l : List ℕ) (to : ℕ) (s : List ℕ) (from : ℕ) where
+  first-byte : 0 < length s - from → set l to (getD s from 0) ≡ sets l to (take 1 (drop from s))
+  first-byte some = rw (add-zero to, add-zero from) at (byte-more l to s from 0 1 (omega arith) (omega arith))
+
+  pub first-two : from + 2 ≤ length s → set (set l to (getD s from 0)) (to + 1) (getD s (from + 1) 0) ≡ sets l to (take 2 (drop from s))
+  first-two within = ap (λ (m : List ℕ). set m (to + 1) (getD s (from + 1) 0)) (first-byte (omega arith)) ∙ byte-more l to s from 1 2 (omega arith) within
+
+  pub first-four : from + 4 ≤ length s
+      → set (set (set (set l to (getD s from 0)) (to + 1) (getD s (from + 1) 0)) (to + 2) (getD s (from + 2) 0)) (to + 3) (getD s (from + 3) 0) ≡ sets l to (take 4 (drop from s))
+  first-four within =
+      ap (λ (m : List ℕ). set (set m (to + 2) (getD s (from + 2) 0)) (to + 3) (getD s (from + 3) 0)) (first-two (omega arith))
+      ∙ ap (λ (m : List ℕ). set m (to + 3) (getD s (from + 3) 0)) (byte-more l to s from 2 4 (omega arith) within)
+      ∙ byte-more l to s from 3 4 (omega arith) within
+
+-- so many bytes more are copied
+pub bytes-more : (l : List ℕ) (used : ℕ) (s : List ℕ) (at i n : ℕ) → at + i ≤ length s
+    → sets (sets l used (take i (drop at s))) (used + i) (take n (drop (at + i) s)) ≡ sets l used (take (i + n) (drop at s))
+bytes-more l used s at i n within =
+    let long : length (take i (drop at s)) ≡ i = length-take-le i (drop at s) (omega (arith, length-drop at s)) in
+    let behind : used + i ≡ used + length (take i (drop at s)) = omega (arith, long) in
+    ap (λ (k : ℕ). sets (sets l used (take i (drop at s))) k (take n (drop (at + i) s))) behind
+    ∙ sets-append l used (take i (drop at s)) (take n (drop (at + i) s))
+    ∙ ap (λ (bs : List ℕ). sets l used bs) (ap (λ (rest : List ℕ). take i (drop at s) ++ take n rest) (sym (drop-drop i at s)) ∙ sym (take-add i n (drop at s)))
+
+-- a record's bytes are those of its mark and of its numbers
+pub record-sized : (m : Mark) {size : ℕ} → size ≡ size-of m → Numbers 2 size
+unfolding size-of
+record-sized m is = record { count = numbers-of m; sized = is }
 
 -- What they spell
 

@@ -6,12 +6,14 @@ use mathlib.Core.Option.{Option, none, some}
 use mathlib.Core.Path.{_≡_, refl, sym, ap, ap₂, subst, _∙_}
 use native.Mathlib.Omega.{arith}
 use lib.ListN.{length, length-set}
+use lib.Dec.{eqb}
 use borrow.Author.Tests.{eq-eqb, ne-eqb}
 use Rattle.rules.specs.Outcome.{Outcome, choose, given}
-use Rattle.rules.specs.Numbers.{Name, SU, code, mark-bytes, number-at}
+use Rattle.rules.specs.Numbers.{Name, ID, SU, code, mark-bytes, number-at}
 use Rattle.rules.specs.Depths as depths
 use Rattle.rules.specs.Locals as locals-rules
 use Rattle.rules.specs.State as rules
+use Rattle.rules.specs.Writing as writing
 use Rattle.rules.specs.Scoping as scoping
 use Rattle.rules.specs.Walk as walk
 use Rattle.depths.specs.declared.AnalysisResult.{AnalysisResult}
@@ -20,8 +22,8 @@ use Rattle.locals.specs.declared.Found.{Found}
 use Rattle.locals.specs.declared.Found.the-variants.{At, Nothing}
 use Rattle.locals.specs.declared.LocalId.{LocalId}
 use Rattle.locals.proofs.Laws.{length-locals}
-use Rattle.frames.specs.Kept.{Kept}
-use Rattle.runs.specs.Steps.{identity-steps, variable-steps}
+use Rattle.resolving.specs.Kept.{Kept}
+use Rattle.runs.specs.Steps.{and-place}
 use Rattle.state.specs.Seen.{Buffers, buffers, stack, Fit}
 use Rattle.state.specs.Walks.{id-if, place-of, Stands, Steps}
 use Rattle.state.specs.declared.AnalysisStack.{AnalysisStack}
@@ -32,7 +34,9 @@ use Rattle.state.specs.declared.Walked.{Walked}
 use Rattle.naming.specs.Answers.{TouchedLocal, TouchedObject}
 use Rattle.using.specs.Answers.{SlotEmitted}
 use Rattle.writing.specs.Answers.{Emitted, BadPlace}
-use Rattle.atoms.specs.Answers.{behind, identity-id, object-used, identity-written, UsedObject, UsedLocal, IdentityEmitted, IdentityAnalyzed, VariableAnalyzed}
+use Rattle.atoms.specs.Answers.{behind, identity-id, object-used, identity-step, variable-step, name-step, UsedObject, UsedLocal, SlotLeft, StepMade, Left, Uses, NameAnalyzed}
+use Rattle.atoms.specs.declared.Used.{Used}
+use Rattle.atoms.specs.declared.Used.the-variants.{Slot, Done}
 use Rattle.atoms.proofs.Laws.{emitted-steps, bad-steps, walks-behind}
 
 -- The state with another dependence and other marks of the present object, which fits where it did
@@ -132,58 +136,6 @@ module _ {touched : AnalysisStack} {locals locals′ : List ℕ} {st : AnalysisS
     as-many-captures = refl;
   }
 
--- what is kept of the frames is kept of as many
-pub kept-as-many : {n n′ count count′ : ℕ} {frames captures : List ℕ} → n′ ≡ n → count′ ≡ count → Kept n frames count captures → Kept n′ frames count′ captures
-kept-as-many e f kept = rw (e, f) kept
-
--- A step behind a use
-
-module _ {r : Step} {l : Limits} {out diagnostics locals locals′ frames captures references : List ℕ} {b′ : Buffers} {st used : AnalysisStack} where
-  steps-after : {f : rules.Limits → rules.AnalysisStack → Outcome rules.AnalysisStack} (g : rules.Limits → rules.AnalysisStack → Outcome rules.AnalysisStack)
-      (T : rules.AnalysisStack)
-      → Steps r l (buffers out diagnostics locals′ frames captures references) b′ used f
-      → stack (buffers out diagnostics locals′ frames captures references) used ≡ T
-      → ((limits : rules.Limits) → f limits T ≡ g limits (stack (buffers out diagnostics locals frames captures references) st))
-      → Steps r l (buffers out diagnostics locals frames captures references) b′ st g
-  steps-after {f = f} g T steps is agree = record {
-    same = λ limits e. steps .same limits e ∙ ap (f limits) is ∙ agree limits;
-    fit = steps .fit;
-  }
-
-slot-steps : {r : Step} {out out′ frames captures captures′ : List ℕ} {limits : Limits} {st : AnalysisStack} {place id : ℕ}
-    → SlotEmitted r out out′ frames captures captures′ limits st place id
-    → (diagnostics locals references : List ℕ) → Fit limits (buffers out diagnostics locals frames captures references) st
-    → Steps r limits (buffers out diagnostics locals frames captures references) (buffers out′ diagnostics locals frames captures′ references) st
-    (λ limits s. scoping.emit-slot limits place id s)
-slot-steps {out = out} {frames = fs} {captures = cs} {st = st} {place = place} {id = id} emitted ds ls rs fit = record {
-  same = λ limits is.
-      emitted .same ds ls rs ∙ ap (λ (L : rules.Limits). scoping.emit-slot L place id (stack (buffers out ds ls fs cs rs) st)) (sym is);
-  fit = emitted .fit ds ls rs fit;
-}
-
--- self, super and $ inside an object
-
-module _ {used : AnalysisStack} {locals : List ℕ} {st : AnalysisStack} {which id : ℕ} (u : UsedObject used locals st which id)
-    {r : Step} {out out′ frames captures : List ℕ} {limits : Limits} {at : ℕ} where
-  pub super-emitted : Emitted r out out′ used at (0x53 ∷ 0x55 ∷ []) [] → which ≡ 1 → IdentityEmitted r out out′ locals frames captures captures limits st at which id
-  unfolding mark-bytes code identity-written choose
-  super-emitted emitted is-super = record {
-    steps = λ ds rs fit.
-        steps-after (λ limits s. identity-written limits at which id s) _
-        (emitted-steps emitted SU refl limits ds locals frames captures rs (u .fit limits out ds frames captures rs fit))
-        (u .same out ds frames captures rs) (λ limits. rw (eq-eqb which 1 is-super) refl);
-  }
-
-  pub this-emitted : {captures′ : List ℕ} → SlotEmitted r out out′ frames captures captures′ limits used at id → (which ≡ 1 → ⊥)
-      → IdentityEmitted r out out′ locals frames captures captures′ limits st at which id
-  unfolding identity-written choose
-  this-emitted emitted no-super = record {
-    steps = λ ds rs fit.
-        steps-after (λ limits s. identity-written limits at which id s) _
-        (slot-steps emitted ds locals rs (u .fit limits out ds frames captures rs fit))
-        (u .same out ds frames captures rs) (λ limits. rw (ne-eqb which 1 no-super) refl);
-  }
-
 -- Which local that is
 
 pub id-of-dollar : (which : ℕ) (here : Place) → 2 ≤ which → here .«dollar_alias» .0 ≡ identity-id which here
@@ -217,26 +169,48 @@ outside-is zero here outside = rw outside refl
 outside-is (suc zero) here outside = rw outside refl
 outside-is (suc (suc n)) here outside = rw outside refl
 
-module _ {r : Step} {w : Walked} {tree out out′ locals frames captures : List ℕ} {limits : Limits} {st : AnalysisStack} {at : ℕ} {here : Place} {which : ℕ}
-    (is : w ≡ behind (at + 10) r) (is-which : which ≡ number-at tree (at + 2)) where
-  pub identity-inside : {diagnostics captures′ : List ℕ} {id : ℕ} → IdentityEmitted r out out′ locals frames captures captures′ limits st at which id
-      → id ≡ identity-id which here → here .«in_object» ≡ true
-      → IdentityAnalyzed w tree out out′ diagnostics diagnostics locals frames captures captures′ limits st at here
-  unfolding identity-steps walk.use-identity given identity-written object-used
-  identity-inside {diagnostics = ds} emitted is-id inside = record {
-    walks = λ rs fit.
-        walks-behind (at + 10) (λ limits s. identity-steps limits tree at (place-of here) s) is (emitted .steps ds rs fit)
-        (λ limits. rw (← is-which, inside-is which here inside, is-id) refl);
-  }
+module _ (tree : List ℕ) (here : Place) {out diagnostics locals : List ℕ} {st : AnalysisStack} {at which : ℕ} (is-which : which ≡ number-at tree (at + 2)) where
+  module _ {used : AnalysisStack} (id : LocalId) (u : UsedObject used locals st which (id .0)) (is-id : id .0 ≡ identity-id which here) (inside : here .«in_object» ≡ true) where
+    pub super-used : {r : Step} {out′ : List ℕ} → Emitted r out out′ used at (0x53 ∷ 0x55 ∷ []) [] → which ≡ 1
+        → Uses (Done r) out out′ diagnostics diagnostics locals locals st at (λ limits σ. identity-step limits tree at (place-of here) σ)
+    unfolding mark-bytes code identity-step walk.use-identity given object-used choose Left
+    super-used emitted is-super = record {
+      left = record {
+        steps = λ l fs cs rs fit.
+            let made = emitted-steps emitted SU refl l diagnostics locals fs cs rs (u .fit l out diagnostics fs cs rs fit) in
+            record {
+              same = λ limits e.
+                  made .same limits e ∙ ap (λ (σ : rules.AnalysisStack). writing.emit limits at SU [] σ) (u .same out diagnostics fs cs rs)
+                  ∙ rw (← is-which, inside-is which here inside, is-id, eq-eqb which 1 is-super) refl;
+              fit = made .fit;
+            };
+      };
+    }
 
-  pub identity-outside : {diagnostics diagnostics′ : List ℕ} {span : ℕ} → BadPlace r out out′ diagnostics diagnostics′ st at (3 + which) 0 span which
+    pub this-used : (which ≡ 1 → ⊥) → Uses (Slot used id) out out diagnostics diagnostics locals locals st at (λ limits σ. identity-step limits tree at (place-of here) σ)
+    unfolding identity-step walk.use-identity given object-used choose Left
+    this-used no-super = record {
+      left = record {
+        room = λ l. refl;
+        same = λ limits fs cs rs.
+            ap (λ (σ : rules.AnalysisStack). scoping.emit-slot limits at (id .0) σ) (u .same out diagnostics fs cs rs)
+            ∙ rw (← is-which, inside-is which here inside, is-id, ne-eqb which 1 no-super) refl;
+        fit = λ l fs cs rs fit. u .fit l out diagnostics fs cs rs fit;
+        as-many-frames = u .as-many-frames;
+        as-many-captures = u .as-many-captures;
+      };
+    }
+
+  pub identity-outside : {r : Step} {out′ diagnostics′ : List ℕ} {span : ℕ} → BadPlace r out out′ diagnostics diagnostics′ st at (3 + which) 0 span which
       → span ≡ number-at tree (at + 6) → here .«in_object» ≡ false
-      → IdentityAnalyzed w tree out out′ diagnostics diagnostics′ locals frames captures captures limits st at here
-  unfolding identity-steps walk.use-identity given
+      → Uses (Done r) out out′ diagnostics diagnostics′ locals locals st at (λ limits σ. identity-step limits tree at (place-of here) σ)
+  unfolding identity-step walk.use-identity given Left
   identity-outside was-bad is-span outside = record {
-    walks = λ rs fit.
-        walks-behind (at + 10) (λ limits s. identity-steps limits tree at (place-of here) s) is (bad-steps was-bad limits locals frames captures rs fit)
-        (λ limits. rw (← is-which, outside-is which here outside, is-span) refl);
+    left = record {
+      steps = λ l fs cs rs fit.
+          let made = bad-steps was-bad l locals fs cs rs fit in
+          record { same = λ limits e. made .same limits e ∙ rw (← is-which, outside-is which here outside, is-span) refl; fit = made .fit };
+    };
   }
 
 -- Names
@@ -275,28 +249,100 @@ module _ (f : Found) (locals : List ℕ) (st : AnalysisStack) (name : ℕ)
   whole-search b e =
       rw e (ap (locals-rules.newest name (locals-of (st .locals) locals) 0) (length-locals (st .locals) locals) ∙ sym (searched (st .locals) (omega arith)))
 
-  module _ {r : Step} {w : Walked} {tree out out′ frames captures : List ℕ} {limits : Limits} {at : ℕ} {here : Place}
-      (is : w ≡ behind (at + 10) r) (is-name : name ≡ number-at tree (at + 2)) where
-    pub variable-found : {diagnostics locals′ captures′ : List ℕ} {used : AnalysisStack} (id : LocalId) → UsedLocal used locals locals′ st (here .depth) (id .0)
-        → SlotEmitted r out out′ frames captures captures′ limits used at (id .0) → f ≡ At id
-        → VariableAnalyzed w tree out out′ diagnostics diagnostics locals locals′ frames captures captures′ limits st at here
-    unfolding variable-steps walk.use-local given place-of found
-    variable-found {diagnostics = ds} {locals′ = ls′} id u emitted e = record {
-      walks = λ rs fit.
-          let b = buffers out ds locals frames captures rs in
-          walks-behind (at + 10) (λ limits s. variable-steps limits tree at (place-of here) s) is
-          (steps-after (λ limits s. scoping.emit-slot limits at (id .0) (scoping.touch-local (here .depth) (id .0) s)) _
-          (slot-steps emitted ds ls′ rs (u .fit limits out ds frames captures rs fit)) (u .same out ds frames captures rs) (λ limits. refl))
-          (λ limits. rw (← is-name, whole-search b refl, e) refl);
+  module _ (tree : List ℕ) (here : Place) {out diagnostics : List ℕ} {at : ℕ} (is-name : name ≡ number-at tree (at + 2)) where
+    pub variable-found : {locals′ : List ℕ} {used : AnalysisStack} (id : LocalId) → UsedLocal used locals locals′ st (here .depth) (id .0) → f ≡ At id
+        → Uses (Slot used id) out out diagnostics diagnostics locals locals′ st at (λ limits σ. variable-step limits tree at (place-of here) σ)
+    unfolding variable-step walk.use-local given place-of found Left
+    variable-found id u e = record {
+      left = record {
+        room = λ l. refl;
+        same = λ limits fs cs rs.
+            ap (λ (σ : rules.AnalysisStack). scoping.emit-slot limits at (id .0) σ) (u .same out diagnostics fs cs rs)
+            ∙ rw (← is-name, whole-search (buffers out diagnostics locals fs cs rs) refl, e) refl;
+        fit = λ l fs cs rs fit. u .fit l out diagnostics fs cs rs fit;
+        as-many-frames = u .as-many-frames;
+        as-many-captures = u .as-many-captures;
+      };
     }
 
-    pub variable-unknown : {diagnostics diagnostics′ : List ℕ} {span : ℕ} → BadPlace r out out′ diagnostics diagnostics′ st at 1 name span 3
+    pub variable-unknown : {r : Step} {out′ diagnostics′ : List ℕ} {span : ℕ} → BadPlace r out out′ diagnostics diagnostics′ st at 1 name span 3
         → span ≡ number-at tree (at + 6) → f ≡ Nothing
-        → VariableAnalyzed w tree out out′ diagnostics diagnostics′ locals locals frames captures captures limits st at here
-    unfolding variable-steps walk.use-local given found
-    variable-unknown {diagnostics = ds} was-bad is-span e = record {
-      walks = λ rs fit.
-          let b = buffers out ds locals frames captures rs in
-          walks-behind (at + 10) (λ limits s. variable-steps limits tree at (place-of here) s) is (bad-steps was-bad limits locals frames captures rs fit)
-          (λ limits. rw (← is-name, whole-search b refl, e, is-span) refl);
+        → Uses (Done r) out out′ diagnostics diagnostics′ locals locals st at (λ limits σ. variable-step limits tree at (place-of here) σ)
+    unfolding variable-step walk.use-local given found Left
+    variable-unknown was-bad is-span e = record {
+      left = record {
+        steps = λ l fs cs rs fit.
+            let made = bad-steps was-bad l locals fs cs rs fit in
+            record {
+              same = λ limits is. made .same limits is ∙ rw (← is-name, whole-search (buffers out diagnostics locals fs cs rs) refl, e, is-span) refl;
+              fit = made .fit;
+            };
+      };
     }
+
+-- A name, by its mark
+
+module _ (tree : List ℕ) (here : Place) {used : Used} {out out′ diagnostics diagnostics′ locals locals′ : List ℕ} {st : AnalysisStack} {at : ℕ} (mark : ℕ) where
+  by-test : {t : Bool} → eqb mark (code ID) ≡ t
+      → Uses used out out′ diagnostics diagnostics′ locals locals′ st at
+      (λ limits σ. choose t (λ _. identity-step limits tree at (place-of here) σ) (λ _. variable-step limits tree at (place-of here) σ))
+      → Uses used out out′ diagnostics diagnostics′ locals locals′ st at (λ limits σ. name-step limits tree mark at (place-of here) σ)
+  unfolding name-step
+  by-test e u = rw e u
+
+  pub identity-name : Uses used out out′ diagnostics diagnostics′ locals locals′ st at (λ limits σ. identity-step limits tree at (place-of here) σ) → mark ≡ code ID
+      → Uses used out out′ diagnostics diagnostics′ locals locals′ st at (λ limits σ. name-step limits tree mark at (place-of here) σ)
+  unfolding choose
+  identity-name u e = by-test (eq-eqb mark (code ID) e) u
+
+  pub variable-name : Uses used out out′ diagnostics diagnostics′ locals locals′ st at (λ limits σ. variable-step limits tree at (place-of here) σ) → (mark ≡ code ID → ⊥)
+      → Uses used out out′ diagnostics diagnostics′ locals locals′ st at (λ limits σ. name-step limits tree mark at (place-of here) σ)
+  unfolding choose
+  variable-name u e = by-test (ne-eqb mark (code ID) e) u
+
+-- What is left of it
+
+module _ {used : Used} {out out′ diagnostics diagnostics′ locals locals′ : List ℕ} {st : AnalysisStack} {at : ℕ} {step : rules.Limits → rules.AnalysisStack → Outcome rules.AnalysisStack}
+    (u : Uses used out out′ diagnostics diagnostics′ locals locals′ st at step) where
+  slot-left : {after : AnalysisStack} {id : LocalId} → used ≡ Slot after id → SlotLeft after (id .0) out out′ diagnostics diagnostics′ locals locals′ st at step
+  unfolding Left
+  slot-left e = subst (λ (r : Used). Left r out out′ diagnostics diagnostics′ locals locals′ st at step) e (u .left)
+
+  step-made : {r : Step} → used ≡ Done r → StepMade r out out′ diagnostics diagnostics′ locals locals′ st step
+  unfolding Left
+  step-made e = subst (λ (r : Used). Left r out out′ diagnostics diagnostics′ locals locals′ st at step) e (u .left)
+
+  -- what was kept of the frames still is
+  pub slot-kept : {after : AnalysisStack} {id : LocalId} {frames captures : List ℕ} → used ≡ Slot after id → Kept (st .frames) frames (st .captures) captures
+      → Kept (after .frames) frames (after .captures) captures
+  slot-kept e kept = rw (slot-left e .as-many-frames, slot-left e .as-many-captures) kept
+
+  pub slot-written : {after : AnalysisStack} {id : LocalId} {r : Step} {out″ frames captures captures′ : List ℕ} {l : Limits} → used ≡ Slot after id
+      → SlotEmitted r out′ out″ frames captures captures′ l after at (id .0)
+      → (references : List ℕ) → Fit l (buffers out diagnostics locals frames captures references) st
+      → Steps r l (buffers out diagnostics locals frames captures references) (buffers out″ diagnostics′ locals′ frames captures′ references) st step
+  slot-written {after = after} {id = id} {frames = fs} {captures = cs} {l = l} e emitted rs fit =
+      let left = slot-left e in
+      record {
+        same = λ limits is.
+            emitted .same diagnostics′ locals′ rs
+            ∙ ap (λ (L : rules.Limits). scoping.emit-slot L at (id .0) (stack (buffers out′ diagnostics′ locals′ fs cs rs) after)) (left .room l ∙ sym is)
+            ∙ left .same limits fs cs rs;
+        fit = emitted .fit diagnostics′ locals′ rs (left .fit l fs cs rs fit);
+      }
+
+module _ (tree : List ℕ) (here : Place) {used : Used} {out out′ diagnostics diagnostics′ locals locals′ : List ℕ} {st : AnalysisStack} {at mark : ℕ}
+    (u : Uses used out out′ diagnostics diagnostics′ locals locals′ st at (λ limits σ. name-step limits tree mark at (place-of here) σ))
+    {r : Step} {w : Walked} (is : w ≡ behind (at + 10) r) {frames captures : List ℕ} {limits : Limits} where
+  pub name-slot : {after : AnalysisStack} {id : LocalId} {out″ captures′ : List ℕ} → used ≡ Slot after id → SlotEmitted r out′ out″ frames captures captures′ limits after at (id .0)
+      → NameAnalyzed w tree out out″ diagnostics diagnostics′ locals locals′ frames captures captures′ limits st at mark here
+  name-slot e emitted = record {
+    walks = λ rs fit.
+        walks-behind (at + 10) (λ limits σ. and-place (at + 10) (name-step limits tree mark at (place-of here) σ)) is (slot-written u e emitted rs fit) (λ limits. refl);
+  }
+
+  pub name-done : used ≡ Done r → NameAnalyzed w tree out out′ diagnostics diagnostics′ locals locals′ frames captures captures limits st at mark here
+  name-done e = record {
+    walks = λ rs fit.
+        walks-behind (at + 10) (λ limits σ. and-place (at + 10) (name-step limits tree mark at (place-of here) σ)) is (step-made u e .steps limits frames captures rs fit) (λ limits. refl);
+  }

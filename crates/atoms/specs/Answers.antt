@@ -1,18 +1,17 @@
 -- What each record's walk answers and leaves, whatever the buffers hold that it does not touch. A primed list is what it leaves of a buffer.
 -- Assumes nothing.
-use Prim.Native.Nat.{ℕ, zero, suc}
-use mathlib.Core.List.{List, []}
+use Prim.Native.Nat.{ℕ, zero, suc, _+_, _*_}
+use mathlib.Core.List.{List}
 use mathlib.Core.Path.{_≡_}
 use lib.Dec.{eqb}
 use Rattle.rules.specs.Outcome.{Outcome, choose}
-use Rattle.rules.specs.Numbers.{SU}
+use Rattle.rules.specs.Numbers.{number-at, code, ID}
 use Rattle.rules.specs.State as rules
-use Rattle.rules.specs.Writing as writing
 use Rattle.rules.specs.Scoping as scoping
 use Rattle.rules.specs.Walk as walk
-use Rattle.runs.specs.Steps.{identity-steps, variable-steps, import-steps, copied, constants-steps, head-written}
-use Rattle.tree.specs.Marks.{mark-of}
-use Rattle.state.specs.Seen.{buffers, stack, Fit}
+use Rattle.runs.specs.Steps.{and-place, span-at, import-steps, copied, constants-steps, head-written}
+use Rattle.marks.specs.Marks.{mark-of}
+use Rattle.state.specs.Seen.{limits-of, buffers, stack, Fit}
 use Rattle.state.specs.Walks.{place-of, Walks, Steps}
 use Rattle.state.specs.declared.Place.{Place}
 use Rattle.state.specs.declared.AnalysisStack.{AnalysisStack}
@@ -21,6 +20,8 @@ use Rattle.state.specs.declared.Step.{Step}
 use Rattle.state.specs.declared.Step.the-variants.{Ok, Refused}
 use Rattle.state.specs.declared.Walked.{Walked}
 use Rattle.state.specs.declared.Walked.the-variants as walked-as
+use Rattle.atoms.specs.declared.Used.{Used}
+use Rattle.atoms.specs.declared.Used.the-variants.{Slot, Done}
 
 -- a step's answer, and the place behind
 unfoldable pub behind : ℕ → Step → Walked
@@ -39,10 +40,6 @@ identity-id (suc (suc n)) here = here .«dollar_alias» .0
 unfoldable pub object-used : (which id : ℕ) → rules.AnalysisStack → rules.AnalysisStack
 object-used which id st = scoping.touch-object id (rules.with-object-use (walk.mark-used which (st .object-use)) st)
 
-unfoldable pub identity-written : rules.Limits → (place which id : ℕ) → rules.AnalysisStack → Outcome rules.AnalysisStack
-identity-written limits place which id st =
-    choose (eqb which 1) (λ _. writing.emit limits place SU [] (object-used which id st)) (λ _. scoping.emit-slot limits place id (object-used which id st))
-
 pub record UsedObject (r : AnalysisStack) (locals : List ℕ) (st : AnalysisStack) (which id : ℕ) : Type 0 where
   pub same : (out diagnostics frames captures references : List ℕ)
       → stack (buffers out diagnostics locals frames captures references) r ≡ object-used which id (stack (buffers out diagnostics locals frames captures references) st)
@@ -51,20 +48,7 @@ pub record UsedObject (r : AnalysisStack) (locals : List ℕ) (st : AnalysisStac
   pub as-many-frames : r .frames ≡ st .frames
   pub as-many-captures : r .captures ≡ st .captures
 
-pub record IdentityEmitted (r : Step) (out out′ locals frames captures captures′ : List ℕ) (limits : Limits) (st : AnalysisStack) (at which id : ℕ) : Type 0 where
-  pub steps : (diagnostics references : List ℕ)
-      → Fit limits (buffers out diagnostics locals frames captures references) st
-      → Steps r limits (buffers out diagnostics locals frames captures references) (buffers out′ diagnostics locals frames captures′ references) st
-      (λ limits st. identity-written limits at which id st)
-
-pub record IdentityAnalyzed (r : Walked) (tree out out′ diagnostics diagnostics′ locals frames captures captures′ : List ℕ) (limits : Limits) (st : AnalysisStack)
-    (at : ℕ) (here : Place) : Type 0 where
-  pub walks : (references : List ℕ)
-      → Fit limits (buffers out diagnostics locals frames captures references) st
-      → Walks r limits (buffers out diagnostics locals frames captures references) (buffers out′ diagnostics′ locals frames captures′ references) st
-      (λ limits st. identity-steps limits tree at (place-of here) st)
-
--- Names
+-- A local
 
 pub record UsedLocal (r : AnalysisStack) (locals locals′ : List ℕ) (st : AnalysisStack) (depth id : ℕ) : Type 0 where
   pub same : (out diagnostics frames captures references : List ℕ)
@@ -74,12 +58,51 @@ pub record UsedLocal (r : AnalysisStack) (locals locals′ : List ℕ) (st : Ana
   pub as-many-frames : r .frames ≡ st .frames
   pub as-many-captures : r .captures ≡ st .captures
 
-pub record VariableAnalyzed (r : Walked) (tree out out′ diagnostics diagnostics′ locals locals′ frames captures captures′ : List ℕ) (limits : Limits) (st : AnalysisStack)
-    (at : ℕ) (here : Place) : Type 0 where
+-- A name: self, super or $, or a variable
+
+unfoldable pub identity-step : rules.Limits → (s : List ℕ) (at : ℕ) → walk.Place → rules.AnalysisStack → Outcome rules.AnalysisStack
+identity-step limits s at h st = walk.use-identity limits at (number-at s (at + 2)) (span-at s (at + 6)) h st
+
+unfoldable pub variable-step : rules.Limits → (s : List ℕ) (at : ℕ) → walk.Place → rules.AnalysisStack → Outcome rules.AnalysisStack
+variable-step limits s at h st = walk.use-local limits at (number-at s (at + 2)) (span-at s (at + 6)) h st
+
+unfoldable pub name-step : rules.Limits → (s : List ℕ) (mark at : ℕ) → walk.Place → rules.AnalysisStack → Outcome rules.AnalysisStack
+name-step limits s mark at h st = choose (eqb mark (code ID)) (λ _. identity-step limits s at h st) (λ _. variable-step limits s at h st)
+
+-- nothing is written yet: the step is to write the slot of that local, from the state after its use
+pub record SlotLeft (after : AnalysisStack) (id : ℕ) (out out′ diagnostics diagnostics′ locals locals′ : List ℕ) (st : AnalysisStack) (at : ℕ)
+    (step : rules.Limits → rules.AnalysisStack → Outcome rules.AnalysisStack) : Type 0 where
+  pub room : (l : Limits) → limits-of l out′ diagnostics′ ≡ limits-of l out diagnostics
+  pub same : (limits : rules.Limits) (frames captures references : List ℕ)
+      → scoping.emit-slot limits at id (stack (buffers out′ diagnostics′ locals′ frames captures references) after)
+      ≡ step limits (stack (buffers out diagnostics locals frames captures references) st)
+  pub fit : (l : Limits) (frames captures references : List ℕ)
+      → Fit l (buffers out diagnostics locals frames captures references) st → Fit l (buffers out′ diagnostics′ locals′ frames captures references) after
+  pub as-many-frames : after .frames ≡ st .frames
+  pub as-many-captures : after .captures ≡ st .captures
+
+pub record StepMade (r : Step) (out out′ diagnostics diagnostics′ locals locals′ : List ℕ) (st : AnalysisStack)
+    (step : rules.Limits → rules.AnalysisStack → Outcome rules.AnalysisStack) : Type 0 where
+  pub steps : (l : Limits) (frames captures references : List ℕ)
+      → Fit l (buffers out diagnostics locals frames captures references) st
+      → Steps r l (buffers out diagnostics locals frames captures references) (buffers out′ diagnostics′ locals′ frames captures references) st step
+
+unfoldable pub Left : Used → (out out′ diagnostics diagnostics′ locals locals′ : List ℕ) → AnalysisStack → (at : ℕ)
+    → (rules.Limits → rules.AnalysisStack → Outcome rules.AnalysisStack) → Type 0
+Left (Slot after id) out out′ diagnostics diagnostics′ locals locals′ st at step = SlotLeft after (id .0) out out′ diagnostics diagnostics′ locals locals′ st at step
+Left (Done r) out out′ diagnostics diagnostics′ locals locals′ st at step = StepMade r out out′ diagnostics diagnostics′ locals locals′ st step
+
+-- what using a name leaves of its step
+pub record Uses (r : Used) (out out′ diagnostics diagnostics′ locals locals′ : List ℕ) (st : AnalysisStack) (at : ℕ)
+    (step : rules.Limits → rules.AnalysisStack → Outcome rules.AnalysisStack) : Type 0 where
+  pub left : Left r out out′ diagnostics diagnostics′ locals locals′ st at step
+
+pub record NameAnalyzed (r : Walked) (tree out out′ diagnostics diagnostics′ locals locals′ frames captures captures′ : List ℕ) (limits : Limits) (st : AnalysisStack)
+    (at mark : ℕ) (here : Place) : Type 0 where
   pub walks : (references : List ℕ)
       → Fit limits (buffers out diagnostics locals frames captures references) st
       → Walks r limits (buffers out diagnostics locals frames captures references) (buffers out′ diagnostics′ locals′ frames captures′ references) st
-      (λ limits st. variable-steps limits tree at (place-of here) st)
+      (λ limits st. and-place (at + 10) (name-step limits tree mark at (place-of here) st))
 
 -- Imports and heads
 
@@ -108,3 +131,8 @@ pub record ConstantsEmitted (r : Walked) (tree out out′ : List ℕ) (st : Anal
       → Fit l (buffers out diagnostics locals frames captures references) st
       → Walks r l (buffers out diagnostics locals frames captures references) (buffers out′ diagnostics locals frames captures references) st
       (λ limits st. constants-steps limits tree n at st)
+
+-- numbers of four bytes each fill what lies between two places
+pub record Numbers (from to : ℕ) : Type 0 where
+  pub count : ℕ
+  pub sized : to ≡ from + 4 * count

@@ -5,29 +5,36 @@ ghost use lib.ListN.{length, take, drop};
 ghost use lib.Seq.{sets};
 ghost use lib.Dec.{leb};
 ghost use Rattle.rules.specs.Outcome.{choose};
-ghost use Rattle.rules.specs.Numbers.{number-at, numbers-bytes, code, code-at, is-set};
+ghost use Rattle.rules.specs.Numbers.{number-at, numbers-bytes, code, code-at, is-set, ID};
 ghost use Rattle.rules.specs.Records.{size-of};
-ghost use Rattle.tree.specs.Marks.{mark-of};
+ghost use Rattle.marks.specs.Marks.{mark-of};
 ghost use Rattle.runs.specs.Steps.{values-from};
-ghost use Rattle.frames.specs.Kept.{Kept};
-ghost use Rattle.state.specs.Walks.{Stands};
-ghost use Rattle.atoms.specs.Answers.{behind, identity-id, UsedObject, UsedLocal, IdentityEmitted, IdentityAnalyzed, VariableAnalyzed, ImportAnalyzed, HeadEmitted, RecordCopied, ConstantsEmitted};
+ghost use Rattle.resolving.specs.Kept.{Kept};
+ghost use Rattle.state.specs.Walks.{place-of, Stands};
+ghost use Rattle.atoms.specs.Answers.{behind, identity-id, identity-step, variable-step, name-step, UsedObject, UsedLocal, Uses, NameAnalyzed, ImportAnalyzed, HeadEmitted, RecordCopied, ConstantsEmitted, Numbers};
 use locals::Found;
 use locals::LocalId;
 use locals::newest;
+use marks::ID;
+use marks::size_of;
 use naming::touch_local;
 use naming::touch_object;
 use packed::number_at;
-use packed::put_record;
+use putting::put_record;
 use state::AnalysisStack;
 use state::Limits;
 use state::Place;
 use state::Step;
 use state::Walked;
-use tree::size_of;
 use using::emit_slot;
 use writing::bad_place;
 use writing::emit;
+
+// What using a name leaves to do: to write the slot of its local, or nothing.
+pub enum Used {
+    Slot(AnalysisStack, LocalId),
+    Done(Step),
+}
 
 // A step's answer, and the place behind its record.
 fn behind(step: Step, next: usize) -> Walked
@@ -73,55 +80,31 @@ fn identity_id(which: u32, here: Place) -> LocalId
     here.this_local
 }
 
-// Inside an object: `SU`, or the slot of that `this`.
-fn emit_identity(
-    out: &mut [u8],
-    locals: &[u32],
-    frames: &[u32],
-    captures: &mut [u32],
-    limits: Limits,
-    st: AnalysisStack,
-    at: usize,
-    which: u32,
-    id: LocalId,
-) -> Step
-    requires { ⌜ (Kept (st .frames) (now frames) (st .captures) (now captures)) × (16 * limits .«max_captures» ≤ length (now captures)) ⌝ }
-    requires { ⌜ (16 * st .locals ≤ length (now locals)) × (id .0 < st .locals) ⌝ }
-    ensures { λ r. ⌜ IdentityEmitted r (now (out .entry)) (now (out .exit)) (now (locals .entry)) (now (frames .entry)) (now (captures .entry)) (now (captures .exit)) limits st at which (id .0) ⌝ }
-{
-    let after = use_object(locals, st, which, id);
-    if which == 1 {
-        return emit(out, after, at, b"SU", &[]);
-    }
-    emit_slot(out, frames, captures, limits, after, at, id)
-}
-
-// self, super or $: inside an object what it stands for, and outside error 3, 4 or 5 and a bad place.
-pub fn analyze_identity(
+// self, super or $: inside an object the local that it stands for is used, whose slot is still to be written, or `SU` is;
+// outside error 3, 4 or 5 and a bad place.
+fn use_identity(
     tree: &[u8],
     out: &mut [u8],
     diagnostics: &mut [u8],
     locals: &[u32],
-    frames: &[u32],
-    captures: &mut [u32],
-    limits: Limits,
     st: AnalysisStack,
     at: usize,
     here: Place,
-) -> Walked
-    requires { ⌜ (at + 10 ≤ length (now tree)) × (number-at (now tree) (at + 2) < 3) × (Stands here st) ⌝ }
-    requires { ⌜ (Kept (st .frames) (now frames) (st .captures) (now captures)) × (16 * limits .«max_captures» ≤ length (now captures)) × (16 * st .locals ≤ length (now locals)) ⌝ }
-    ensures { λ r. ⌜ IdentityAnalyzed r (now (tree .entry)) (now (out .entry)) (now (out .exit)) (now (diagnostics .entry)) (now (diagnostics .exit)) (now (locals .entry)) (now (frames .entry)) (now (captures .entry)) (now (captures .exit)) limits st at here ⌝ }
+) -> Used
+    requires { ⌜ (at + 10 ≤ length (now tree)) × (number-at (now tree) (at + 2) < 3) × (Stands here st) × (16 * st .locals ≤ length (now locals)) ⌝ }
+    ensures { λ r. ⌜ Uses r (now (out .entry)) (now (out .exit)) (now (diagnostics .entry)) (now (diagnostics .exit)) (now (locals .entry)) (now (locals .entry)) st at (λ limits σ. identity-step limits (now (tree .entry)) at (place-of here) σ) ⌝ }
 {
     let which = number_at(tree, at + 2);
     if here.in_object {
         let id = identity_id(which, here);
-        let emitted = emit_identity(out, locals, frames, captures, limits, st, at, which, id);
-        return behind(emitted, at + 10);
+        let after = use_object(locals, st, which, id);
+        if which == 1 {
+            return Used::Done(emit(out, after, at, b"SU", &[]));
+        }
+        return Used::Slot(after, id);
     }
     let span = number_at(tree, at + 6);
-    let bad = bad_place(out, diagnostics, st, at, 3 + which, 0, span, which);
-    behind(bad, at + 10)
+    Used::Done(bad_place(out, diagnostics, st, at, 3 + which, 0, span, which))
 }
 
 // A use of a local, of whose changes to the state only the dependence is taken, as above.
@@ -136,8 +119,56 @@ fn use_local(locals: &mut [u32], st: AnalysisStack, depth: u32, id: LocalId) -> 
     after
 }
 
-// The newest local with the name, used and its slot written; where there is none, error 1 and a bad place.
-pub fn analyze_variable(
+// The newest local with the name is used, whose slot is still to be written; where there is none, error 1 and a bad place.
+fn use_variable(
+    tree: &[u8],
+    out: &mut [u8],
+    diagnostics: &mut [u8],
+    locals: &mut [u32],
+    st: AnalysisStack,
+    at: usize,
+    here: Place,
+) -> Used
+    requires { ⌜ (at + 10 ≤ length (now tree)) × (16 * st .locals ≤ length (now locals)) ⌝ }
+    ensures { λ r. ⌜ Uses r (now (out .entry)) (now (out .exit)) (now (diagnostics .entry)) (now (diagnostics .exit)) (now (locals .entry)) (now (locals .exit)) st at (λ limits σ. variable-step limits (now (tree .entry)) at (place-of here) σ) ⌝ }
+{
+    let name = number_at(tree, at + 2);
+    let found = newest(locals, name, 0, st.locals as usize);
+    match found {
+        Found::At(id) => {
+            let after = use_local(locals, st, here.depth, id);
+            Used::Slot(after, id)
+        }
+        Found::Nothing => {
+            let span = number_at(tree, at + 6);
+            Used::Done(bad_place(out, diagnostics, st, at, 1, name, span, 3))
+        }
+    }
+}
+
+// A name's record up to its slot, by its mark.
+fn use_name(
+    tree: &[u8],
+    out: &mut [u8],
+    diagnostics: &mut [u8],
+    locals: &mut [u32],
+    st: AnalysisStack,
+    at: usize,
+    mark: u32,
+    here: Place,
+) -> Used
+    requires { ⌜ (at + 10 ≤ length (now tree)) × (mark ≡ code ID → number-at (now tree) (at + 2) < 3) × (Stands here st) × (16 * st .locals ≤ length (now locals)) ⌝ }
+    ensures { λ r. ⌜ Uses r (now (out .entry)) (now (out .exit)) (now (diagnostics .entry)) (now (diagnostics .exit)) (now (locals .entry)) (now (locals .exit)) st at (λ limits σ. name-step limits (now (tree .entry)) mark at (place-of here) σ) ⌝ }
+{
+    match mark {
+        ID => use_identity(tree, out, diagnostics, locals, st, at, here),
+        _ => use_variable(tree, out, diagnostics, locals, st, at, here),
+    }
+}
+
+// self, super or $ where the mark is `ID`, and else a variable. The slot is written in one place for both, so that the
+// compiler inlines it.
+pub fn analyze_name(
     tree: &[u8],
     out: &mut [u8],
     diagnostics: &mut [u8],
@@ -147,26 +178,21 @@ pub fn analyze_variable(
     limits: Limits,
     st: AnalysisStack,
     at: usize,
+    mark: u32,
     here: Place,
 ) -> Walked
-    requires { ⌜ (at + 10 ≤ length (now tree)) × (16 * st .locals ≤ length (now locals)) ⌝ }
+    requires { ⌜ (at + 10 ≤ length (now tree)) × (mark ≡ code ID → number-at (now tree) (at + 2) < 3) × (Stands here st) × (16 * st .locals ≤ length (now locals)) ⌝ }
     requires { ⌜ (Kept (st .frames) (now frames) (st .captures) (now captures)) × (16 * limits .«max_captures» ≤ length (now captures)) ⌝ }
-    ensures { λ r. ⌜ VariableAnalyzed r (now (tree .entry)) (now (out .entry)) (now (out .exit)) (now (diagnostics .entry)) (now (diagnostics .exit)) (now (locals .entry)) (now (locals .exit)) (now (frames .entry)) (now (captures .entry)) (now (captures .exit)) limits st at here ⌝ }
+    ensures { λ r. ⌜ NameAnalyzed r (now (tree .entry)) (now (out .entry)) (now (out .exit)) (now (diagnostics .entry)) (now (diagnostics .exit)) (now (locals .entry)) (now (locals .exit)) (now (frames .entry)) (now (captures .entry)) (now (captures .exit)) limits st at mark here ⌝ }
 {
     let next = at + 10;
-    let name = number_at(tree, at + 2);
-    let found = newest(locals, name, 0, st.locals as usize);
-    match found {
-        Found::At(id) => {
-            let used = use_local(locals, st, here.depth, id);
-            let emitted = emit_slot(out, frames, captures, limits, used, at, id);
+    let used = use_name(tree, out, diagnostics, locals, st, at, mark, here);
+    match used {
+        Used::Slot(after, id) => {
+            let emitted = emit_slot(out, frames, captures, limits, after, at, id);
             behind(emitted, next)
         }
-        Found::Nothing => {
-            let span = number_at(tree, at + 6);
-            let bad = bad_place(out, diagnostics, st, at, 1, name, span, 3);
-            behind(bad, next)
-        }
+        Used::Done(step) => behind(step, next),
     }
 }
 
@@ -229,15 +255,32 @@ fn has_room(out: &[u8], used: usize, n: usize) -> bool
     used <= out.len() - n
 }
 
-// n bytes of the tree behind those that are used.
+// Four bytes of the tree at a place of the output: all are read first, so that they are moved as one.
+fn copy_four(out: &mut [u8], to: usize, tree: &[u8], from: usize)
+    requires { ⌜ (to + 4 ≤ length (now out)) × (from + 4 ≤ length (now tree)) ⌝ }
+    ensures { λ _. ⌜ now (out .exit) ≡ sets (now (out .entry)) to (take 4 (drop from (now (tree .entry)))) ⌝ }
+{
+    let a = tree[from];
+    let b = tree[from + 1];
+    let c = tree[from + 2];
+    let d = tree[from + 3];
+    out[to] = a;
+    out[to + 1] = b;
+    out[to + 2] = c;
+    out[to + 3] = d;
+}
+
+// A record's n bytes behind those that are used: its mark, and numbers of four bytes each.
 fn copy_bytes(out: &mut [u8], used: usize, tree: &[u8], at: usize, n: usize)
-    requires { ⌜ (used + n ≤ length (now out)) × (at + n ≤ length (now tree)) ⌝ }
+    requires { ⌜ (used + n ≤ length (now out)) × (at + n ≤ length (now tree)) × (Numbers 2 n) ⌝ }
     ensures { λ _. ⌜ now (out .exit) ≡ sets (now (out .entry)) used (take n (drop at (now (tree .entry)))) ⌝ }
 {
-    let mut i = 0;
+    out[used] = tree[at];
+    out[used + 1] = tree[at + 1];
+    let mut i = 2;
     while i < n {
-        out[used + i] = tree[at + i];
-        i += 1;
+        copy_four(out, used + i, tree, at + i);
+        i += 4;
     }
 }
 
@@ -271,7 +314,7 @@ fn copy_values(out: &mut [u8], used: usize, tree: &[u8], at: usize, n: usize)
 {
     let mut i = 0;
     while i < n {
-        copy_bytes(out, used + 4 * i, tree, at + 6 * i + 2, 4);
+        copy_four(out, used + 4 * i, tree, at + 6 * i + 2);
         i += 1;
     }
 }

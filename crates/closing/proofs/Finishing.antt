@@ -14,9 +14,9 @@ use Rattle.rules.specs.Scoping as scoping
 use Rattle.rules.proofs.After.{After, fine, after-ok, after-weaken, after-bind, after-need, after-choose, after-given}
 use Rattle.tables.specs.Rows.{rows}
 use Rattle.tables.proofs.Laws.{length-rows}
-use Rattle.locals.specs.Meaning.{reference-of-row, references-of}
+use Rattle.references.specs.Meaning.{reference-of-row, references-of}
 use Rattle.frames.specs.Meaning.{number}
-use Rattle.frames.specs.Kept.{Kept}
+use Rattle.resolving.specs.Kept.{Kept}
 use Rattle.state.specs.Seen.{Buffers, buffers, stack, seen, limits-of, Fit}
 use Rattle.state.specs.Walks.{Steps}
 use Rattle.state.specs.declared.AnalysisStack.{AnalysisStack}

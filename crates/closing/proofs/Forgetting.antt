@@ -13,9 +13,11 @@ use Rattle.rules.specs.State as rules
 use Rattle.rules.specs.Scoping.{first-in-frame}
 use Rattle.tables.specs.Rows.{row, rows}
 use Rattle.tables.proofs.Laws.{length-rows}
-use Rattle.locals.specs.Meaning.{local-of-row, locals-of, reference-of-row, references-of}
-use Rattle.frames.specs.Meaning.{number, frame-of, frames-of}
-use Rattle.frames.proofs.Laws.{frames-top}
+use Rattle.locals.specs.Meaning.{local-of-row, locals-of}
+use Rattle.references.specs.Meaning.{reference-of-row, references-of}
+use Rattle.frames.specs.Meaning.{number}
+use Rattle.resolving.specs.Meaning.{frame-of, frames-of}
+use Rattle.resolving.proofs.Laws.{frames-top}
 use Rattle.state.specs.Seen.{Buffers, buffers, stack, Fit}
 use Rattle.state.specs.declared.AnalysisStack.{AnalysisStack}
 use Rattle.state.specs.declared.Limits.{Limits}

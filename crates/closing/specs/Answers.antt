@@ -14,8 +14,9 @@ use Rattle.rules.specs.Writing.{emit}
 use Rattle.rules.specs.Scoping as scoping
 use Rattle.rules.specs.Walk as walk
 use Rattle.runs.specs.Steps.{object-record, and-place, finished-local, finished-function, finished-object}
-use Rattle.locals.specs.Meaning.{local, references-of}
+use Rattle.locals.specs.Meaning.{local}
 use Rattle.locals.specs.declared.LocalDefinition.{LocalDefinition}
+use Rattle.references.specs.Meaning.{references-of}
 use Rattle.settle.specs.Meaning.{Below}
 use Rattle.state.specs.Seen.{span-of, Buffers, buffers, seen, Fit, Fits}
 use Rattle.state.specs.Walks.{naming-of, walked, Walked-fits, Walks, Steps, Becomes}

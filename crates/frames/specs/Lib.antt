@@ -1,4 +1,3 @@
--- What the contracts cite beside the rules.
+-- What the contracts cite.
 pub mod Meaning
-pub mod Kept
 pub mod Answers

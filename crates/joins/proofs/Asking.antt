@@ -9,9 +9,10 @@ use lib.ListN.{length, take, length-take}
 use Rattle.rules.specs.Numbers.{number-at, is-set}
 use Rattle.rules.specs.State as rules
 use Rattle.rules.specs.Writing.{open-frame}
-use Rattle.locals.specs.Meaning.{locals-of, references-of}
+use Rattle.locals.specs.Meaning.{locals-of}
 use Rattle.locals.proofs.Laws.{length-locals}
-use Rattle.locals.proofs.Keeping.{length-references}
+use Rattle.references.specs.Meaning.{references-of}
+use Rattle.references.proofs.Keeping.{length-references}
 use Rattle.settle.specs.Meaning.{Below}
 use Rattle.steady.specs.Steady.{Sound}
 use Rattle.runs.specs.Steps.{first-defaults}

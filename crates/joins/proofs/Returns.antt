@@ -19,8 +19,8 @@ use Rattle.rules.specs.Tree.{Heads}
 use Rattle.rules.specs.Writing.{open-frame}
 use Rattle.rules.specs.Scoping.{settle-frame}
 use Rattle.rules.specs.Walk as walk
-use Rattle.tree.specs.Marks.{mark-of, children}
-use Rattle.tree.specs.Places.{is-some}
+use Rattle.marks.specs.Marks.{mark-of, children}
+use Rattle.marks.specs.Constants.{is-some}
 use Rattle.runs.specs.Run.{Accepted, run-expr, run-item, run-items, run-assertions, run-values, run-heads, run-binds, run-params, items-at, binds-at, params-at, heads-at, values-at}
 use Rattle.runs.specs.Steps.{identity-steps, variable-steps, import-steps, constants-steps, copied, closed-array, closed-assertions, closed-value, head-naming-at, bind-naming-at, opened-value}
 use Rattle.runs.specs.Steps.{closed-spec, recorded, begun-local, begun-function, begun-object, finished-local, finished-function, finished-object, span-at, first-defaults, plain-steps, head-written, array-steps, local-steps, function-steps, object-steps}

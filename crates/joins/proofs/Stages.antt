@@ -14,8 +14,8 @@ use Rattle.rules.specs.Scoping.{settle-frame}
 use Rattle.rules.specs.State as rules
 use Rattle.rules.specs.Walk as walk
 use Rattle.rules.proofs.After.{after-ok}
-use Rattle.tree.specs.Marks.{mark-of, children}
-use Rattle.tree.proofs.Laws.{numbers-part}
+use Rattle.marks.specs.Marks.{mark-of, children}
+use Rattle.marks.proofs.Laws.{numbers-part}
 use Rattle.runs.specs.Run.{Accepted, run-expr, run-items, run-assertions, run-heads, run-binds, run-params, items-at, binds-at, params-at, heads-at, values-at}
 use Rattle.runs.specs.Steps.{begun-local, begun-function, begun-object}
 use Rattle.runs.proofs.Reading.{expr-level, expr-inside}

@@ -3,6 +3,7 @@ use Prim.Native.Nat.{ℕ, zero, suc, _+_, _-_, _*_, _<_, _≤_}
 use native.Mathlib.Omega.{arith}
 use mathlib.Core.Bool.{Bool, true, false}
 use mathlib.Core.List.{List, [], _∷_}
+use mathlib.Core.Logic.{_⊎_, inl, inr}
 use mathlib.Core.Path.{_≡_, refl, sym, _∙_, ap, subst}
 use lib.ListN.{length}
 use Rattle.rules.specs.Outcome.{Outcome, ok, refuse}
@@ -14,9 +15,9 @@ use Rattle.runs.specs.Run.{Accepted, values-at, heads-at, items-at, binds-at, p
 use Rattle.runs.proofs.Lists.{items-none, items-first, items-rest, items-next, items-stop, heads-none, heads-first, heads-rest, heads-next, heads-stop}
 use Rattle.runs.proofs.Lists.{binds-none, binds-first, binds-rest, binds-next, binds-stop, params-none, params-first, params-rest, params-next, params-stop}
 use Rattle.runs.proofs.Lists.{values-none, values-first, values-head, values-stop, values-rest, values-next, head-fits, head-behind}
-use Rattle.tree.specs.Left.{Behind}
+use Rattle.skipping.specs.Behind.{Behind}
 use Rattle.steady.proofs.Places.{passed-values, passed-items, passed-heads, passed-binds, passed-params}
-use Rattle.state.specs.Seen.{Buffers, stack, limits-of, Fit}
+use Rattle.state.specs.Seen.{Buffers, buffers, stack, limits-of, Fit}
 use Rattle.state.specs.Walks.{place-of, walked, specs, Walks, Walks-specs, Walked-fits, Specs-fits}
 use Rattle.state.specs.declared.AnalysisStack.{AnalysisStack}
 use Rattle.state.specs.declared.Limits.{Limits}
@@ -66,6 +67,22 @@ left-over lt = omega arith
 none-over : {n i : ℕ} → i ≤ n → n ≤ i → n - i ≡ 0
 none-over le done = omega arith
 
+-- One step, whichever branch it came from
+
+pub record Turned (l : Limits) (b : Buffers) (st : AnalysisStack) (run : Run) (w : Walked) (b₁ : Buffers) : Type 0 where
+  pub walks : Walks w l b b₁ st run
+  pub longs : Longs b b₁
+
+pub turned : {l : Limits} {b : Buffers} {st : AnalysisStack} {run : Run} {o d lo f c re : List ℕ} {r : Walked}
+    → Walks r l b (buffers o d lo f c re) st run → Longs b (buffers o d lo f c re)
+    → {out diagnostics locals frames captures references : List ℕ} {w : Walked} → out ≡ o → diagnostics ≡ d → locals ≡ lo → frames ≡ f → captures ≡ c → references ≡ re → w ≡ r
+    → Turned l b st run w (buffers out diagnostics locals frames captures references)
+turned w k eo ed el ef ec er ew = rw (eo, ed, el, ef, ec, er, ew) record { walks = w; longs = k }
+
+pub either-turned : {A B : Type 0} (l : Limits) (b : Buffers) (st : AnalysisStack) (run : Run) (w : Walked) (b₁ : Buffers) → A ⊎ B → (A → Turned l b st run w b₁) → (B → Turned l b st run w b₁) → Turned l b st run w b₁
+either-turned l b st run w b₁ (inl x) left right = left x
+either-turned l b st run w b₁ (inr y) left right = right y
+
 -- Lists of items and of heads: what must be there, and what is run, by how many and from where
 
 pub record Turn (there : ℕ → ℕ → Type 0) (run : ℕ → ℕ → Run) (l : Limits) (s : List ℕ) (nest : ℕ) (h : Place) (b₀ : Buffers) (st₀ : AnalysisStack) (p₀ n : ℕ) (b : Buffers) (st : AnalysisStack) (p i : ℕ) : Type 0 where
@@ -74,6 +91,7 @@ pub record Turn (there : ℕ → ℕ → Type 0) (run : ℕ → ℕ → Run) (l 
   pub ready : Ready l b st s p nest h
   pub same : (L : rules.Limits) → L ≡ limits-of l (b₀ .out) (b₀ .diagnostics) → run (n - i) p L (stack b st) ≡ run n p₀ L (stack b₀ st₀)
   pub longs : Longs b₀ b
+  pub begun : i ≡ 0 → p ≡ p₀
 
 -- what such a list is, one at a time
 pub record Unrolls (there : ℕ → ℕ → Type 0) (run : ℕ → ℕ → Run) : Type 0 where
@@ -86,7 +104,7 @@ pub record Unrolls (there : ℕ → ℕ → Type 0) (run : ℕ → ℕ → Run) 
 
 module _ {there : ℕ → ℕ → Type 0} {run : ℕ → ℕ → Run} (u : Unrolls there run) {l : Limits} {s : List ℕ} {nest : ℕ} {h : Place} {b₀ : Buffers} {st₀ : AnalysisStack} {p₀ n : ℕ} where
   pub turn-begin : there n p₀ → Ready l b₀ st₀ s p₀ nest h → Turn there run l s nest h b₀ st₀ p₀ n b₀ st₀ p₀ 0
-  turn-begin a r = record { few = omega arith; left = subst (λ (k : ℕ). there k p₀) (sym (whole n)) a; ready = r; same = λ L eL. ap (λ (k : ℕ). run k p₀ L (stack b₀ st₀)) (whole n); longs = longs-none }
+  turn-begin a r = record { few = omega arith; left = subst (λ (k : ℕ). there k p₀) (sym (whole n)) a; ready = r; same = λ L eL. ap (λ (k : ℕ). run k p₀ L (stack b₀ st₀)) (whole n); longs = longs-none; begun = λ _. refl }
 
   module _ {b : Buffers} {st : AnalysisStack} {p i : ℕ} (t : Turn there run l s nest h b₀ st₀ p₀ n b st p i) where
     pub turn-end : n ≤ i → Walks (walked-as.To st p) l b₀ b st₀ (λ L σ. run n p₀ L σ)
@@ -122,6 +140,7 @@ module _ {there : ℕ → ℕ → Type 0} {run : ℕ → ℕ → Run} (u : Unrol
               sym (u .next (n - (i + 1)) p L (stack b st) more (went one e L eL′))
               ∙ ap (λ (k : ℕ). run k p L (stack b st)) (left-over lt) ∙ t .same L eL;
           longs = longs-then (t .longs) k;
+          begun = λ none. absurd (omega (arith, none));
         }
 
 -- Specs, of which some are kept

@@ -22,9 +22,10 @@ use Rattle.tables.proofs.Laws.{length-rows}
 use Rattle.tables.specs.Rows.{rows}
 use Rattle.depths.specs.Meaning.{result}
 use Rattle.depths.specs.declared.AnalysisResult.{AnalysisResult}
-use Rattle.locals.specs.Meaning.{references-of, reference-of-row}
 use Rattle.locals.proofs.Laws.{length-locals}
-use Rattle.frames.specs.Meaning.{number, frames-of}
+use Rattle.references.specs.Meaning.{references-of, reference-of-row}
+use Rattle.frames.specs.Meaning.{number}
+use Rattle.resolving.specs.Meaning.{frames-of}
 use Rattle.state.specs.Seen.{Buffers, buffers, stack, limits-of, Fit}
 use Rattle.state.specs.declared.AnalysisStack.{AnalysisStack}
 use Rattle.state.specs.declared.Limits.{Limits}

@@ -2,7 +2,7 @@
 ghost use mathlib.Core.Path.{_≡_};
 ghost use Prim.Native.Nat.{ℕ, _+_, _*_, _<_, _≤_};
 ghost use lib.ListN.{length};
-ghost use Rattle.frames.specs.Kept.{Kept};
+ghost use Rattle.resolving.specs.Kept.{Kept};
 ghost use Rattle.frames.specs.Meaning.{number};
 ghost use Rattle.keeping.specs.Answers.{Placed, ArrayClosed, ValueClosed, AssertionsClosed, OuterTainted, SpecDropped, SpecWritten, SpecKept, Counted, SpecRecorded, SpecClosed};
 use depths::AnalysisResult;

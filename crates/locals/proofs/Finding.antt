@@ -1,18 +1,21 @@
 -- Laws of the search for a name. Assumes nothing.
-use Prim.Native.Nat.{ℕ, suc, _+_, _*_, _-_, _≤_, _<_}
-use mathlib.Core.Bool.{Bool, true, false}
+use Prim.Native.Nat.{ℕ, zero, suc, _+_, _*_, _-_, _≤_, _<_}
+use mathlib.Core.Bool.{Bool, true, false, not, _&&_}
 use mathlib.Core.List.{List}
 use mathlib.Core.Option.{some}
 use mathlib.Core.Path.{_≡_, refl, sym, ap, _∙_}
 use native.Mathlib.Omega.{arith}
 use lib.ListN.{getD}
-use borrow.Author.Tests.{eq-eqb, ne-eqb}
+use lib.Dec.{eqb}
+use borrow.Author.Tests.{eq-eqb, ne-eqb, eqb-false, not-true}
 use Rattle.rules.specs.Outcome.{choose, given}
 use Rattle.rules.specs.Numbers.{is-set, same-name}
 use Rattle.rules.specs.Locals.{has-name, newest}
 use Rattle.tables.specs.Rows.{row}
 use Rattle.tables.proofs.Laws.{row-at}
 use Rattle.locals.specs.Meaning.{named, local-of-row, locals-of}
+use Rattle.locals.specs.Tables.{NoneNamed}
+use Rattle.locals.proofs.Fours.{four-tests}
 use Rattle.locals.proofs.Laws.{set-not-zero, locals-at}
 
 -- An entry's name
@@ -81,3 +84,24 @@ module _ {t : List ℕ} {name first n left : ℕ} (at : Searching t name first n
       → (total : ℕ) → first + n ≤ total → newest name (locals-of total t) first n ≡ some (next first left)
   unfolding choose
   found-here set e total h = step total h ∙ rw (this-name name (next first left) t set e)
+
+-- Four entries at a time
+
+-- their names are read and tested
+pub four-others : (t : List ℕ) (name from : ℕ)
+    → ((not (eqb (getD t (16 * from + 10) 0) name) && not (eqb (getD t (16 * from + 10 + 16) 0) name)) && (not (eqb (getD t (16 * from + 10 + 32) 0) name) && not (eqb (getD t (16 * from + 10 + 48) 0) name))) ≡ true
+    → NoneNamed t name from
+four-others t name from tests = record {
+  others = λ k after before. eqb-false (getD t (16 * k + 10) 0) name (not-true (eqb (getD t (16 * k + 10) 0) name) (four-tests (λ j. not (eqb (getD t j 0) name)) from 10 tests k after before));
+}
+
+module _ {t : List ℕ} {name first n left : ℕ} (begun : Searching t name first n left) where
+  -- so many entries with other names
+  passes : (m : ℕ) → m ≤ left → ((k : ℕ) → first + left ≤ k + m → k < first + left → getD t (16 * k + 10) 0 ≡ name → ⊥) → Searching t name first n (left - m)
+  passes zero few others = let all : left - 0 ≡ left = omega arith in rw all begun
+  passes (suc m) few others =
+      let one-less : left - suc m ≡ left - m - 1 = omega arith in
+      rw one-less (passed-other-name (passes m (omega arith) (λ k after before. others k (omega arith) before)) (omega arith) (others (first + (left - m - 1)) (omega arith) (omega arith)))
+
+  pub four-searched : 4 ≤ left → NoneNamed t name (first + (left - 4)) → Searching t name first n (left - 4)
+  four-searched more none = passes 4 more (λ k after before. none .others k (omega arith) (omega arith))

@@ -1,19 +1,20 @@
 -- Laws of flags, of entries as locals, and of a table in which one local was stored. Assumes nothing.
-use Prim.Native.Nat.{ℕ, zero, suc, _+_, _*_, _-_, _≤_, _<_}
+use Prim.Native.Nat.{ℕ, zero, suc, _+_, _*_, _-_, _≤_, _<_, min}
 use mathlib.Core.Bool.{Bool, true, false, not}
-use mathlib.Core.List.{List, _++_}
+use mathlib.Core.List.{List, [], _∷_, _++_}
 use mathlib.Core.Path.{_≡_, refl, sym, ap, _∙_}
 use native.Mathlib.Omega.{arith}
 use lib.Dec.{eqb}
-use lib.ListN.{length, take, drop}
+use lib.ListN.{length, set, take, drop, length-set}
 use lib.Seq.{sets, sets-eq, length-sets}
 use borrow.Author.Tests.{ne-eqb}
+use Rattle.rules.specs.Outcome.{choose}
 use Rattle.rules.specs.Numbers.{bit, is-set}
 use Rattle.rules.specs.Locals as rules
 use Rattle.rules.specs.Locals.{local-at, no-local}
 use Rattle.tables.specs.Rows.{row}
-use Rattle.tables.proofs.Laws.{length-row, row-replaced, length-replaced, others-replaced, length-entries, entries-at, put-stored}
-use Rattle.locals.specs.Meaning.{local, local-of-row, locals-of, numbers}
+use Rattle.tables.proofs.Laws.{length-row, row-set, row-beside, row-replaced, length-replaced, others-replaced, length-entries, entries-at, put-stored}
+use Rattle.locals.specs.Meaning.{local, local-of-row, locals-of, with-use, numbers}
 use Rattle.locals.specs.Tables.{PutLocal}
 use Rattle.locals.specs.declared.LocalDefinition.{LocalDefinition}
 
@@ -76,3 +77,55 @@ put-entry id t r l inside e =
     let long : length r ≡ 16 = ap length stored ∙ length-sets entry 0 (numbers l) ∙ whole in
     rw (lent-width id) (local-stored id t (take (16 * id) t ++ (r ++ drop 16 (drop (16 * id) t))) (others-replaced id t inside r long) (local l) (length-replaced id t inside r long)
     (ap local-of-row (row-replaced id t inside r long ∙ stored) ∙ entry-holds entry l whole))
+
+-- What a use changes
+
+-- its three numbers in an entry
+used-row : (l : LocalDefinition) (r : List ℕ) → 8 ≤ length r
+    → local-of-row (set (set (set r 1 (l .«used_at_depth»)) 2 (bit (l .«used_by_sibling»))) 7 (bit (l .«scratch_referenced»))) ≡ with-use (local l) (local-of-row r)
+unfolding local local-of-row with-use
+used-row l [] long = absurd (omega arith)
+used-row l (a ∷ []) long = absurd (omega arith)
+used-row l (a ∷ b ∷ []) long = absurd (omega arith)
+used-row l (a ∷ b ∷ c ∷ []) long = absurd (omega arith)
+used-row l (a ∷ b ∷ c ∷ d ∷ []) long = absurd (omega arith)
+used-row l (a ∷ b ∷ c ∷ d ∷ e ∷ []) long = absurd (omega arith)
+used-row l (a ∷ b ∷ c ∷ d ∷ e ∷ f ∷ []) long = absurd (omega arith)
+used-row l (a ∷ b ∷ c ∷ d ∷ e ∷ f ∷ g ∷ []) long = absurd (omega arith)
+used-row l (a ∷ b ∷ c ∷ d ∷ e ∷ f ∷ g ∷ h ∷ r) long = simp is-set-bit
+
+pub put-used : (id : ℕ) (t : List ℕ) (l : LocalDefinition) → 16 * id + 16 ≤ length t → with-use (local l) (local-of-row (row id t)) ≡ local l
+    → PutLocal t (set (set (set t (16 * id + 1) (l .«used_at_depth»)) (16 * id + 2) (bit (l .«used_by_sibling»))) (16 * id + 7) (bit (l .«scratch_referenced»))) id (local l)
+put-used id t l inside only =
+    let depth = l .«used_at_depth» in
+    let sibling = bit (l .«used_by_sibling») in
+    let noted = bit (l .«scratch_referenced») in
+    let u = set t (16 * id + 1) depth in
+    let v = set u (16 * id + 2) sibling in
+    let here : row id (set v (16 * id + 7) noted) ≡ set (set (set (row id t) 1 depth) 2 sibling) 7 noted =
+    row-set id 7 noted v (omega arith)
+    ∙ ap (λ (r : List ℕ). set r 7 noted) (row-set id 2 sibling u (omega arith) ∙ ap (λ (r : List ℕ). set r 2 sibling) (row-set id 1 depth t (omega arith))) in
+    local-stored id t (set v (16 * id + 7) noted)
+    (λ i differs. row-beside i id 7 noted v (omega arith) differs ∙ row-beside i id 2 sibling u (omega arith) differs ∙ row-beside i id 1 depth t (omega arith) differs) (local l)
+    (length-set v (16 * id + 7) noted ∙ length-set u (16 * id + 2) sibling ∙ length-set t (16 * id + 1) depth)
+    (ap local-of-row here ∙ used-row l (row id t) (omega (arith, length-row id t inside)) ∙ only)
+
+-- a use changes no more
+module _ (m : rules.LocalDefinition) where
+  noted-only : (u : rules.LocalDefinition) → with-use u m ≡ u → with-use (rules.note-reference u) m ≡ rules.note-reference u
+  unfolding rules.note-reference rules.with-scratch-referenced with-use choose
+  noted-only u e = by (rules.keeps-reference u)
+    where
+      by : (b : Bool) → with-use (choose b (λ _. rules.with-scratch-referenced true u) (λ _. u)) m ≡ choose b (λ _. rules.with-scratch-referenced true u) (λ _. u)
+      by true = ap (rules.with-scratch-referenced true) e
+      by false = e
+
+  pub used-only : (depth : ℕ) → with-use (rules.note-reference (rules.use-at depth m)) m ≡ rules.note-reference (rules.use-at depth m)
+  unfolding rules.use-at rules.with-used-by-sibling rules.with-used-at-depth with-use choose
+  used-only depth = noted-only (rules.use-at depth m) (by (eqb depth (m .defined-at-depth)))
+    where
+      by : (b : Bool)
+          → with-use (choose b (λ _. rules.with-used-by-sibling m) (λ _. rules.with-used-at-depth (min (m .used-at-depth) depth) m)) m
+          ≡ choose b (λ _. rules.with-used-by-sibling m) (λ _. rules.with-used-at-depth (min (m .used-at-depth) depth) m)
+      by true = refl
+      by false = refl

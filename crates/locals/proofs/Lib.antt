@@ -1,4 +1,4 @@
 -- What the proofs of several functions use.
 pub mod Laws
+pub mod Fours
 pub mod Finding
-pub mod Keeping

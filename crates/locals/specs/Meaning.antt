@@ -1,4 +1,4 @@
--- What the structs, the answers and a table's entries mean: the rules' locals and references. Assumes nothing.
+-- What the struct, the answers and a table's entries mean: the rules' locals. Assumes nothing.
 use Prim.Native.Nat.{ℕ}
 use mathlib.Core.Bool.{Bool, true, false}
 use mathlib.Core.List.{List, [], _∷_, map}
@@ -7,11 +7,9 @@ use lib.ListN.{getD}
 use Rattle.rules.specs.Numbers.{Name, bit, is-set}
 use Rattle.rules.specs.Tree.{Binding, at-record, external}
 use Rattle.rules.specs.Locals as rules
-use Rattle.rules.specs.Settling as settling
 use Rattle.depths.specs.Meaning.{result}
 use Rattle.tables.specs.Rows.{rows}
 use Rattle.locals.specs.declared.LocalDefinition.{LocalDefinition}
-use Rattle.locals.specs.declared.Reference.{Reference}
 use Rattle.locals.specs.declared.Found.{Found}
 use Rattle.locals.specs.declared.Found.the-variants.{At, Nothing}
 
@@ -36,6 +34,20 @@ local l = record {
   analysis = result (l .analysis);
   analyzed = l .analyzed;
   scratch-referenced = l .«scratch_referenced»;
+}
+
+-- a local with what a use changes as another has it
+unfoldable pub with-use : (used l : rules.LocalDefinition) → rules.LocalDefinition
+with-use used l = record {
+  stands-for = l .stands-for;
+  name = l .name;
+  span = l .span;
+  defined-at-depth = l .defined-at-depth;
+  used-at-depth = used .used-at-depth;
+  used-by-sibling = used .used-by-sibling;
+  analysis = l .analysis;
+  analyzed = l .analyzed;
+  scratch-referenced = used .scratch-referenced;
 }
 
 -- its numbers in an entry, in the order of the struct's fields; the last three of the sixteen are unused
@@ -82,20 +94,3 @@ locals-of n t = map local-of-row (rows n t)
 unfoldable pub found : Found → Option ℕ
 found (At id) = some (id .0)
 found Nothing = none
-
-abbrev pub reference : (user used : ℕ) → settling.Reference
-reference user used = record { user = user; used = used }
-
-abbrev pub refers : Reference → settling.Reference
-refers r = reference (r .user .0) (r .used .0)
-
--- the reference of an entry's numbers; the other fourteen are unused
-unfoldable pub reference-of-row : List ℕ → settling.Reference
-reference-of-row r = reference (getD r 0 0) (getD r 1 0)
-
--- the references of the first n entries, the oldest first
-unfoldable pub references-of : ℕ → List ℕ → List settling.Reference
-references-of n t = map reference-of-row (rows n t)
-
-unfoldable pub reference-at : List settling.Reference → ℕ → settling.Reference
-reference-at refs i = getD refs i (reference 0 0)

@@ -1,12 +1,14 @@
-// Locals and the references kept for them, in lent tables of sixteen numbers an entry, under the Rust's names.
+// Locals in a lent table of sixteen numbers an entry, under the Rust's names.
+ghost use mathlib.Core.Bool.{true};
 ghost use mathlib.Core.Path.{_≡_};
 ghost use Prim.Native.Nat.{ℕ, _+_, _*_, _<_, _≤_};
 ghost use lib.ListN.{length};
 ghost use lib.Seq.{sets};
 ghost use Rattle.rules.specs.Locals.{local-at, newest, use-at, note-reference, with-analysis};
+ghost use Rattle.tables.specs.Rows.{row};
 ghost use Rattle.depths.specs.Meaning.{result};
-ghost use Rattle.locals.specs.Meaning.{local, local-of-row, locals-of, numbers, found, refers, reference-at, references-of};
-ghost use Rattle.locals.specs.Tables.{PutLocal, PutReference, Keeps};
+ghost use Rattle.locals.specs.Meaning.{local, local-of-row, locals-of, with-use, numbers, found};
+ghost use Rattle.locals.specs.Tables.{PutLocal, NoneNamed};
 use depths::AnalysisResult;
 
 // The position of a local's entry.
@@ -27,25 +29,17 @@ pub struct LocalDefinition {
     pub place: u32,
 }
 
-// A reference kept for the spec `user`, whose value referred to its sibling `used`.
-pub struct Reference {
-    pub user: LocalId,
-    pub used: LocalId,
-}
-
 pub enum Found {
     At(LocalId),
     Nothing,
 }
 
-// How many references there are now, or that they pass the limit.
-pub enum Kept {
-    To(usize),
-    NoRoom,
-}
-
 // Where an entry has the numbers that are read or stored alone: a search looks at one or two numbers of each entry.
-const SCRATCH_REFERENCED: usize = 7;
+const USED_AT_DEPTH: usize = 1;
+
+const USED_BY_SIBLING: usize = 2;
+
+pub const SCRATCH_REFERENCED: usize = 7;
 
 const HAS_NAME: usize = 9;
 
@@ -114,12 +108,53 @@ pub fn put_local(locals: &mut [u32], id: LocalId, l: LocalDefinition)
     to_entry(&mut locals[at..at + 16], l);
 }
 
+// A local into its entry, where only what a use changes differs from what the entry holds.
+pub fn put_use(locals: &mut [u32], id: LocalId, l: LocalDefinition)
+    requires { ⌜ (16 * (id .0) + 16 ≤ length (now locals)) × (with-use (local l) (local-of-row (row (id .0) (now locals))) ≡ local l) ⌝ }
+    ensures { λ _. ⌜ PutLocal (now (locals .entry)) (now (locals .exit)) (id .0) (local l) ⌝ }
+{
+    let entry = 16 * (id.0 as usize);
+    locals[entry + USED_AT_DEPTH] = l.used_at_depth;
+    locals[entry + USED_BY_SIBLING] = l.used_by_sibling as u32;
+    locals[entry + SCRATCH_REFERENCED] = l.scratch_referenced as u32;
+}
+
+// Whether none of the four entries from `from` on has the name.
+fn none_named(locals: &[u32], name: u32, from: usize) -> bool
+    requires { ⌜ 16 * from + 64 ≤ length (now locals) ⌝ }
+    ensures { λ r. ⌜ (r ≡ true → NoneNamed (now (locals .entry)) name from) ⌝ }
+{
+    let at = 16 * from + NAME;
+    let first = locals[at] != name;
+    let second = locals[at + 16] != name;
+    let third = locals[at + 32] != name;
+    let fourth = locals[at + 48] != name;
+    (first & second) & (third & fourth)
+}
+
+// How many of the n locals from `first` on are left to search, once four at a time are passed of which none has the name.
+fn left_to_search(locals: &[u32], name: u32, first: usize, n: usize) -> usize
+    requires { ⌜ (16 * (first + n) ≤ length (now locals)) × (first + n ≤ 4294967296) ⌝ }
+    ensures { λ r. ⌜ (r ≤ n) × ((total : ℕ) → first + n ≤ total → newest name (locals-of total (now (locals .entry))) first n ≡ newest name (locals-of total (now (locals .entry))) first r) ⌝ }
+{
+    let mut left = n;
+    while 4 <= left {
+        let rest = left - 4;
+        if none_named(locals, name, first + rest) {
+            left = rest;
+        } else {
+            return left;
+        }
+    }
+    left
+}
+
 // The newest of the n locals from `first` on that has the name.
 pub fn newest(locals: &[u32], name: u32, first: usize, n: usize) -> Found
     requires { ⌜ (16 * (first + n) ≤ length (now locals)) × (first + n ≤ 4294967296) ⌝ }
     ensures { λ r. ⌜ ((total : ℕ) → first + n ≤ total → found r ≡ newest name (locals-of total (now (locals .entry))) first n) ⌝ }
 {
-    let mut left = n;
+    let mut left = left_to_search(locals, name, first, n);
     while 0 < left {
         left -= 1;
         let at = 16 * (first + left);
@@ -168,58 +203,4 @@ pub fn with_analysis(l: LocalDefinition, a: AnalysisResult) -> LocalDefinition
     done.analysis = a;
     done.analyzed = true;
     done
-}
-
-// The reference of an entry.
-pub fn reference_at(references: &[u32], i: usize) -> Reference
-    requires { ⌜ 16 * i + 16 ≤ length (now references) ⌝ }
-    ensures { λ r. ⌜ ((n : ℕ) → i < n → refers r ≡ reference-at (references-of n (now (references .entry))) i) ⌝ }
-{
-    let at = 16 * i;
-    Reference {
-        user: LocalId(references[at]),
-        used: LocalId(references[at + 1]),
-    }
-}
-
-// A reference into an entry.
-pub fn put_reference(references: &mut [u32], i: usize, r: Reference)
-    requires { ⌜ 16 * i + 16 ≤ length (now references) ⌝ }
-    ensures { λ _. ⌜ PutReference (now (references .entry)) (now (references .exit)) i (refers r) ⌝ }
-{
-    let at = 16 * i;
-    references[at] = r.user.0;
-    references[at + 1] = r.used.0;
-}
-
-// The references that the spec `user` has noted among the n locals from `first` on, kept behind the first `kept`; their notes are cleared.
-pub fn keep_references(
-    locals: &mut [u32],
-    references: &mut [u32],
-    user: LocalId,
-    first: usize,
-    n: usize,
-    kept: usize,
-    max_references: usize,
-) -> Kept
-    requires { ⌜ (16 * (first + n) ≤ length (now locals)) × (first + n ≤ 4294967296) × (16 * «max_references» ≤ length (now references)) × (kept ≤ «max_references») ⌝ }
-    ensures { λ r. ⌜ Keeps r (now (locals .entry)) (now (locals .exit)) (now (references .entry)) (now (references .exit)) (user .0) first (first + n) kept «max_references» ⌝ }
-{
-    let end = first + n;
-    let mut count = kept;
-    let mut next = first;
-    while next < end {
-        let k = next;
-        next += 1;
-        if locals[16 * k + SCRATCH_REFERENCED] != 0 {
-            if max_references <= count {
-                return Kept::NoRoom;
-            }
-            let used = LocalId(k as u32);
-            put_reference(references, count, Reference { user, used });
-            locals[16 * k + SCRATCH_REFERENCED] = 0;
-            count += 1;
-        }
-    }
-    Kept::To(count)
 }

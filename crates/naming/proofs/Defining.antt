@@ -26,11 +26,13 @@ use Rattle.locals.specs.Meaning.{local, local-of-row, locals-of}
 use Rattle.locals.specs.Tables.{PutLocal}
 use Rattle.locals.specs.declared.LocalDefinition.{LocalDefinition}
 use Rattle.locals.proofs.Laws.{length-locals}
-use Rattle.frames.specs.Meaning.{number, frame-of, frames-of}
-use Rattle.frames.specs.Kept.{Kept}
+use Rattle.frames.specs.Meaning.{number}
+use Rattle.resolving.specs.Meaning.{frame-of, frames-of}
+use Rattle.resolving.specs.Kept.{Kept}
 use Rattle.frames.specs.Answers.{FrameAt}
 use Rattle.frames.specs.declared.Frame.{Frame}
-use Rattle.frames.proofs.Laws.{frames-top, frames-agree, eq-or-not}
+use Rattle.captures.proofs.Laws.{eq-or-not}
+use Rattle.resolving.proofs.Laws.{frames-top, frames-agree}
 use Rattle.state.specs.Seen.{buffers, stack, limits-of}
 use Rattle.state.specs.declared.AnalysisStack.{AnalysisStack}
 use Rattle.state.specs.declared.Limits.{Limits}

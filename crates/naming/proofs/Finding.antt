@@ -17,10 +17,11 @@ use Rattle.locals.specs.declared.Found.{Found}
 use Rattle.locals.specs.declared.Found.the-variants.{At, Nothing}
 use Rattle.locals.specs.declared.LocalId.{LocalId}
 use Rattle.locals.proofs.Laws.{length-locals}
-use Rattle.frames.specs.Meaning.{number, frame-of, frames-of}
+use Rattle.frames.specs.Meaning.{number}
+use Rattle.resolving.specs.Meaning.{frame-of, frames-of}
 use Rattle.frames.specs.Answers.{FrameAt}
 use Rattle.frames.specs.declared.Frame.{Frame}
-use Rattle.frames.proofs.Laws.{frames-top}
+use Rattle.resolving.proofs.Laws.{frames-top}
 use Rattle.state.specs.Seen.{Buffers, buffers, stack}
 use Rattle.state.specs.declared.AnalysisStack.{AnalysisStack}
 use Rattle.naming.specs.Answers.{FirstInFrame, IsTaken, IsKept}

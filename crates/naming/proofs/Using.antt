@@ -14,13 +14,16 @@ use Rattle.rules.specs.Settling.{Reference}
 use Rattle.rules.specs.State as state
 use Rattle.rules.specs.State.{with-locals, with-references, with-taint}
 use Rattle.rules.specs.Scoping as scoping
-use Rattle.tables.specs.Rows.{rows}
+use Rattle.tables.specs.Rows.{row, rows}
 use Rattle.tables.proofs.Laws.{length-rows}
 use Rattle.depths.specs.Meaning.{result}
 use Rattle.depths.specs.declared.AnalysisResult.{AnalysisResult}
-use Rattle.locals.specs.Meaning.{local, locals-of, reference-of-row, references-of}
-use Rattle.locals.specs.Tables.{PutLocal, AllKept, with-noted, cleared}
+use Rattle.locals.specs.Meaning.{local, local-of-row, locals-of, with-use}
+use Rattle.locals.specs.Tables.{PutLocal}
 use Rattle.locals.specs.declared.LocalDefinition.{LocalDefinition}
+use Rattle.locals.proofs.Laws.{locals-at, used-only}
+use Rattle.references.specs.Meaning.{reference-of-row, references-of}
+use Rattle.references.specs.Tables.{AllKept, with-noted, cleared}
 use Rattle.state.specs.Seen.{buffers, stack, limits-of, Fit}
 use Rattle.state.specs.declared.AnalysisStack.{AnalysisStack}
 use Rattle.state.specs.declared.Limits.{Limits}
@@ -89,6 +92,14 @@ module _ (locals : List ℕ) (st : AnalysisStack) (id : ℕ) (l : LocalDefinitio
   stored : {locals′ : List ℕ} {d : rules.LocalDefinition} (f : rules.LocalDefinition → rules.LocalDefinition) → PutLocal locals locals′ id d → d ≡ f (local l)
       → locals-of (st .locals) locals′ ≡ set (locals-of (st .locals) locals) id (f mine)
   stored f put e = put .held (st .locals) inside ∙ ap (set (locals-of (st .locals) locals) id) (e ∙ ap f is-mine)
+
+  -- only what a use changes differs from what is there
+  pub touches-only : (used noted : LocalDefinition) (depth : ℕ) → local noted ≡ rules.note-reference (local used) → local used ≡ rules.use-at depth (local l)
+      → with-use (local noted) (local-of-row (row id locals)) ≡ local noted
+  touches-only used noted depth notes uses =
+      let there : local-of-row (row id locals) ≡ local l = sym (is-mine ∙ locals-at (st .locals) id locals inside) in
+      let after : local noted ≡ rules.note-reference (rules.use-at depth (local l)) = notes ∙ ap rules.note-reference uses in
+      rw (there, after) (used-only (local l) depth)
 
   pub touched : {locals′ : List ℕ} {d : rules.LocalDefinition} (used : LocalDefinition) (depth : ℕ) (taint : AnalysisResult) → PutLocal locals locals′ id d
       → d ≡ rules.note-reference (local used) → local used ≡ rules.use-at depth (local l) → result taint ≡ tainted-by-local (result (st .taint)) (local l)

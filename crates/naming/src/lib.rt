@@ -14,15 +14,16 @@ use depths::AnalysisResult;
 use frames::frame_at;
 use frames::put_frame;
 use locals::Found;
-use locals::Kept;
 use locals::LocalDefinition;
 use locals::LocalId;
 use locals::local_at;
 use locals::newest;
 use locals::note_reference;
 use locals::put_local;
+use locals::put_use;
 use locals::use_at;
 use locals::with_analysis;
+use references::Kept;
 use state::AnalysisStack;
 use state::Limits;
 use state::Step;
@@ -186,7 +187,7 @@ pub fn touch_local(locals: &mut [u32], st: AnalysisStack, depth: u32, id: LocalI
 {
     let l = local_at(locals, id);
     let used = use_at(l, depth);
-    put_local(locals, id, note_reference(used));
+    put_use(locals, id, note_reference(used));
     let before = st.taint;
     let taint = taint_by_local(before, l);
     let mut after = st;
@@ -261,7 +262,7 @@ pub fn keep_references(
 {
     let first = first_in_frame(frames, st);
     let n = st.locals - first;
-    let kept = locals::keep_references(
+    let kept = references::keep_references(
         locals,
         references,
         id,

@@ -12,8 +12,9 @@ use Rattle.rules.specs.Scoping as scoping
 use Rattle.rules.specs.Writing as rules-writing
 use Rattle.rules.specs.Walk as walk
 use Rattle.rules.proofs.After.{After, fine, after-ok, after-bind, after-need}
-use Rattle.frames.specs.Meaning.{number, frame-of, frames-of}
-use Rattle.tree.proofs.Binding.{bind-assoc}
+use Rattle.frames.specs.Meaning.{number}
+use Rattle.resolving.specs.Meaning.{frame-of, frames-of}
+use Rattle.skipping.proofs.Binding.{bind-assoc}
 use Rattle.runs.specs.Run.{run-define-binds, run-define-params}
 use Rattle.runs.specs.Steps.{begun-local, begun-function, begun-object}
 use Rattle.state.specs.Seen.{Buffers, buffers, stack, seen, limits-of, Fit, Fits}

@@ -15,10 +15,10 @@ use Rattle.rules.specs.State.{Limits, AnalysisStack}
 use Rattle.rules.specs.Scoping.{define-local}
 use Rattle.rules.specs.Walk.{define-binds, define-params, is-static, is-among}
 use Rattle.rules.proofs.After.{After, fine, refused, after-ok, after-bind, after-choose, held-some}
-use Rattle.tree.specs.Seen.{Skipped}
-use Rattle.tree.proofs.Laws.{all-none, _also_}
-use Rattle.tree.proofs.Binding.{bind-ext, bind-assoc}
-use Rattle.tree.proofs.Reading.{Was, record-was, row-held, only-mark}
+use Rattle.skipping.specs.Behind.{Skipped}
+use Rattle.marks.proofs.Laws.{all-none, _also_}
+use Rattle.skipping.proofs.Binding.{bind-ext, bind-assoc}
+use Rattle.skipping.proofs.Reading.{Was, record-was, row-held, only-mark}
 use Rattle.runs.specs.Run.{Accepted, binds-at, params-at, heads-at, run-define-binds, run-define-params}
 use Rattle.state.specs.Seen.{span-of}
 use Rattle.opening.specs.Answers.{AfterParam}

@@ -14,8 +14,8 @@ use Rattle.rules.specs.State as rules
 use Rattle.rules.specs.Scoping as scoping
 use Rattle.rules.specs.Writing as rules-writing
 use Rattle.rules.proofs.After.{After, fine, refused, after-ok, after-bind, after-need, after-choose}
-use Rattle.frames.specs.Meaning.{frames-of}
-use Rattle.tree.specs.Seen.{Skipped}
+use Rattle.resolving.specs.Meaning.{frames-of}
+use Rattle.skipping.specs.Behind.{Skipped}
 use Rattle.runs.specs.Run.{Accepted, binds-at, params-at, run-define-binds, run-define-params}
 use Rattle.state.specs.Seen.{span-of, buffers, stack, seen, limits-of, Fit, Fits}
 use Rattle.state.specs.Walks.{Walks}

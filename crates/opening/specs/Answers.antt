@@ -12,7 +12,7 @@ use Rattle.rules.specs.State.{with-object-use}
 use Rattle.rules.specs.Writing.{open-frame}
 use Rattle.rules.specs.Scoping.{define-this}
 use Rattle.rules.specs.Walk as walk
-use Rattle.tree.specs.Seen.{Skipped}
+use Rattle.skipping.specs.Behind.{Skipped}
 use Rattle.runs.specs.Run.{Accepted, binds-at, params-at, heads-at, run-define-binds, run-define-params}
 use Rattle.runs.specs.Steps.{opened-value, begun-local, begun-function, begun-object}
 use Rattle.state.specs.Seen.{Buffers, buffers, stack, Fit}

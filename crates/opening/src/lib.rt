@@ -11,17 +11,17 @@ ghost use Rattle.opening.specs.Answers.{Binds-there, Opening, Params-the
 use defining::define_local;
 use depths::AnalysisResult;
 use locals::LocalId;
+use marks::BF;
 use naming::define_this;
 use packed::mark_at;
 use packed::number_at;
+use skipping::skip;
 use state::AnalysisStack;
 use state::Limits;
 use state::Naming;
 use state::Place;
 use state::Step;
 use state::Walked;
-use tree::BF;
-use tree::skip;
 use writing::open_frame;
 
 // One deeper, for a body.

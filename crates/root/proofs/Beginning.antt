@@ -24,9 +24,10 @@ use Rattle.rules.specs.Call.{define-externals, open-root}
 use Rattle.rules.proofs.After.{After, fine, after-ok, after-bind, after-need, after-weaken}
 use Rattle.locals.specs.Meaning.{local}
 use Rattle.locals.specs.declared.LocalDefinition.{LocalDefinition}
-use Rattle.frames.specs.Meaning.{number, frame-of, frames-of}
-use Rattle.frames.specs.Kept.{Kept, Owned}
-use Rattle.frames.specs.Answers.{Opened}
+use Rattle.frames.specs.Meaning.{number}
+use Rattle.resolving.specs.Meaning.{frame-of, frames-of}
+use Rattle.resolving.specs.Kept.{Kept, Owned}
+use Rattle.resolving.specs.Answers.{Opened}
 use Rattle.runs.proofs.Reading.{bind-first, bind-ext}
 use Rattle.state.specs.Seen.{Buffers, buffers, stack, seen, limits-of, Fit, Fits}
 use Rattle.state.specs.Walks.{id-if, place-of}

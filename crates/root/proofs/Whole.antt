@@ -21,10 +21,9 @@ use Rattle.rules.proofs.After.{After, fine, after-ok, after-bind, after-need}
 use Rattle.tree.specs.declared.Walk.{Walk}
 use Rattle.tree.specs.declared.Walk.the-variants as walk-as
 use Rattle.tree.specs.Seen.{seen, ended}
-use Rattle.tree.specs.Marks.{judged-at}
-use Rattle.tree.specs.Places.{expected-at}
+use Rattle.skipping.specs.Places.{judged-at, expected-at}
 use Rattle.tree.proofs.Definition.{got, only-row, record-expected}
-use Rattle.tree.proofs.Laws.{mark-code}
+use Rattle.marks.proofs.Laws.{mark-code}
 use Rattle.runs.specs.Run.{Accepted, run-expr}
 use Rattle.runs.proofs.Reading.{both, need-true, same-ok, no-answer, bind-first, bind-ext, bind-assoc}
 use Rattle.writing.proofs.Laws.{passes, fails}

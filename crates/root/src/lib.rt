@@ -20,8 +20,8 @@ use locals::LocalDefinition;
 use locals::LocalId;
 use naming::push_local;
 use packed::number_at;
-use packed::zero_bytes;
-use packed::zero_numbers;
+use putting::zero_bytes;
+use putting::zero_numbers;
 use state::AnalysisStack;
 use state::Limits;
 use state::Place;
@@ -208,7 +208,7 @@ pub fn open_root(frames: &mut [u32], limits: Limits, st: AnalysisStack, n: u32) 
     if limits.max_frames == 0 {
         return Step::Refused(7, 0);
     }
-    frames::open_frame(frames, 0, true, 0, n, st.captures);
+    resolving::open_frame(frames, 0, true, 0, n, st.captures);
     let mut after = st;
     after.frames = 1;
     Step::Ok(after)

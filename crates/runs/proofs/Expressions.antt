@@ -21,9 +21,9 @@ use Rattle.rules.specs.FirstWalk.{expr-item, holder-at, child-at, groups-at, bi
 use Rattle.rules.specs.State.{Limits, AnalysisStack}
 use Rattle.rules.specs.Walk.{Place, Naming, unnamed, analyze, analyze-all, analyze-assertions, analyze-values, analyze-binds, analyze-params, analyze-heads, define-binds, define-params}
 use Rattle.rules.specs.Walk.{deeper, in-object, is-empty, is-identity, first-has-default, is-static, object-numbers, head-namings}
-use Rattle.tree.specs.Marks.{mark-of, children}
-use Rattle.tree.specs.Places.{is-some}
-use Rattle.tree.proofs.Laws.{All, all-none, _also_, mark-code}
+use Rattle.marks.specs.Marks.{mark-of, children}
+use Rattle.marks.specs.Constants.{is-some}
+use Rattle.marks.proofs.Laws.{All, all-none, _also_, mark-code}
 use Rattle.runs.specs.Run.{Accepted, holders, item-at, items-at, binds-at, params-at, heads-at, values-at}
 use Rattle.runs.specs.Run.{run-expr, run-item, run-items, run-assertions, run-values, run-heads, run-binds, run-params, run-define-binds, run-define-params}
 use Rattle.runs.specs.Steps.{span-at, values-from, first-defaults, gives-argument, object-record, and-place, closed-array, finished-local, finished-function, finished-object}

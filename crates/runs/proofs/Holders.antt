@@ -14,8 +14,8 @@ use Rattle.rules.specs.FirstWalk.{any-expression, many, none-left, expr-item, e
 use Rattle.rules.specs.State.{Limits, AnalysisStack}
 use Rattle.rules.specs.Walk.{Place, unnamed}
 use Rattle.rules.proofs.After.{both-passed}
-use Rattle.tree.specs.Marks.{mark-of, children}
-use Rattle.tree.proofs.Laws.{mark-code}
+use Rattle.marks.specs.Marks.{mark-of, children}
+use Rattle.marks.proofs.Laws.{mark-code}
 use Rattle.runs.specs.Run.{Accepted, item-at, items-at, run-expr, run-item, run-items}
 use Rattle.runs.specs.Steps.{copied, plain-steps}
 use Rattle.runs.proofs.Binding.{many-first, many-rest, many-alone, many-one}

@@ -19,11 +19,10 @@ use Rattle.rules.specs.Scoping.{define-local, record-spec-init}
 use Rattle.rules.specs.Walk.{Place, Naming, unnamed, as-method, as-computed-method, bind-naming, head-namings, first-naming, define-binds, define-params}
 use Rattle.rules.specs.Walk.{analyze, analyze-all, analyze-assertions, analyze-values, analyze-binds, analyze-params, analyze-heads}
 use Rattle.rules.proofs.After.{After, fine, after-ok, after-bind}
-use Rattle.tree.specs.Seen.{past}
-use Rattle.tree.specs.Marks.{mark-of, find-mark, marks, children}
-use Rattle.tree.specs.Places.{over, expr-past, exprs-past, below-past, held-past}
-use Rattle.tree.specs.Left.{Behind}
-use Rattle.tree.proofs.Binding.{over-one}
+use Rattle.skipping.specs.Places.{past, over, expr-past, exprs-past, below-past, held-past}
+use Rattle.marks.specs.Marks.{mark-of, find-mark, marks, children}
+use Rattle.skipping.specs.Behind.{Behind}
+use Rattle.skipping.proofs.Binding.{over-one}
 use Rattle.tree.proofs.Laws.{judged-right}
 use Rattle.tree.proofs.Leaves.{expected-first}
 use Rattle.runs.specs.Run.{Accepted, item-at, items-at, binds-at, params-at, heads-at, values-at}

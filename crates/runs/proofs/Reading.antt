@@ -14,10 +14,10 @@ use Rattle.rules.specs.Tree.{Expr, place-of}
 use Rattle.rules.specs.FirstWalk.{Allowed, any-expression, function-only, object-only, Form, Read, rows, row-of, allowed, record-at, below, expr-at, only, holder-at, child-at, Child, level, holder}
 use Rattle.rules.specs.FirstWalk.{an-identity, a-constant, a-variable, an-array, an-import, a-local, a-function, an-object, parts}
 use Rattle.rules.proofs.After.{After, fine, refused, after-ok, after-bind, after-given, after-weaken, held-some}
-use Rattle.tree.specs.Marks.{size-at, mark-at}
-use Rattle.tree.proofs.Laws.{all-none, _also_, size-least}
-use Rattle.tree.proofs.Going.{Goes, arrived, onward}
-use Rattle.tree.proofs.Reading.{reads, row-code, row-held}
+use Rattle.marks.specs.Marks.{size-at, mark-at}
+use Rattle.marks.proofs.Laws.{all-none, _also_, size-least}
+use Rattle.skipping.proofs.Going.{Goes, arrived, onward}
+use Rattle.skipping.proofs.Reading.{reads, row-code, row-held}
 use Rattle.runs.specs.Run.{Accepted, item-at, holders}
 
 -- Answers one after another

@@ -19,12 +19,11 @@ use Rattle.rules.specs.FirstWalk.{an-identity, a-constant, a-variable, an-array
 use Rattle.rules.specs.FirstWalk.{record-at, expr-item, holder-at, child-at, bind-item, param-item, head-item, below, expr-at}
 use Rattle.rules.proofs.After.{After, fine, refused, after-ok, after-bind, after-need, after-choose, after-given, after-weaken, Held, held-some}
 use Rattle.rules.proofs.ReadRecords.{each-in-range, flag-is}
-use Rattle.tree.proofs.Laws.{all-none, _also_}
-use Rattle.tree.proofs.Going.{Goes, arrived, onward}
-use Rattle.tree.proofs.Reading.{row-held, row-code, reads}
+use Rattle.marks.proofs.Laws.{all-none, _also_, size-least}
+use Rattle.skipping.proofs.Going.{Goes, arrived, onward}
+use Rattle.skipping.proofs.Reading.{row-held, row-code, reads}
 use Rattle.tree.proofs.Definition.{record-first}
-use Rattle.tree.proofs.Laws.{size-least}
-use Rattle.tree.specs.Marks.{mark-at, size-at}
+use Rattle.marks.specs.Marks.{mark-at, size-at}
 use Rattle.runs.specs.Run.{item-at}
 use Rattle.runs.specs.Steps.{span-at}
 use Rattle.runs.proofs.Binding.{after-self, many-within}

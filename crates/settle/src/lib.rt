@@ -40,7 +40,7 @@ pub fn analysis_round(locals: &mut [u32], references: &[u32], from: usize, to: u
     let mut changed = false;
     let mut k = from;
     while k < to {
-        let r = locals::reference_at(references, k);
+        let r = references::reference_at(references, k);
         changed |= propagate_analysis(locals, r.user, r.used);
         k += 1;
     }
@@ -55,7 +55,7 @@ pub fn use_round(locals: &mut [u32], references: &[u32], from: usize, to: usize)
     let mut changed = false;
     let mut k = from;
     while k < to {
-        let r = locals::reference_at(references, k);
+        let r = references::reference_at(references, k);
         changed |= propagate_use(locals, r.user, r.used);
         k += 1;
     }

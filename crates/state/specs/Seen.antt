@@ -6,9 +6,11 @@ use Rattle.rules.specs.Outcome.{Outcome, ok, refuse}
 use Rattle.rules.specs.Records.{Span}
 use Rattle.rules.specs.State as rules
 use Rattle.depths.specs.Meaning.{result}
-use Rattle.locals.specs.Meaning.{locals-of, references-of}
-use Rattle.frames.specs.Meaning.{number, frames-of}
-use Rattle.frames.specs.Kept.{Kept}
+use Rattle.locals.specs.Meaning.{locals-of}
+use Rattle.references.specs.Meaning.{references-of}
+use Rattle.frames.specs.Meaning.{number}
+use Rattle.resolving.specs.Meaning.{frames-of}
+use Rattle.resolving.specs.Kept.{Kept}
 use Rattle.state.specs.declared.AnalysisStack.{AnalysisStack}
 use Rattle.state.specs.declared.Limits.{Limits}
 use Rattle.state.specs.declared.Step.{Step}

@@ -14,8 +14,8 @@ pub struct AnalysisStack {
     pub self_used: bool,
     pub super_used: bool,
     pub dollar_used: bool,
-    pub taint: AnalysisResult,
     pub errored: bool,
+    pub taint: AnalysisResult,
     pub rounds: u64,
 }
 

@@ -1,7 +1,5 @@
 -- What the proofs of several functions use.
 pub mod Laws
-pub mod Going
-pub mod Reading
 pub mod Binding
 pub mod Turns
 pub mod Leaves

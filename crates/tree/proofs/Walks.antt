@@ -15,14 +15,17 @@ use Rattle.rules.specs.FirstWalk.{Form, any-expression, rows, row-of, constants
 use Rattle.rules.proofs.After.{chosen}
 use Rattle.tree.specs.declared.Walk.{Walk}
 use Rattle.tree.specs.declared.Walk.the-variants.{Past, Refused}
-use Rattle.tree.specs.Seen.{seen, past}
-use Rattle.tree.specs.Marks.{mark-of, children}
-use Rattle.tree.specs.Places.{over, is-some, Ends, lone, opened-at, expected-at, expr-past, exprs-past, below-past, held-past, bind-past, value-past, values-past}
+use Rattle.tree.specs.Seen.{seen}
+use Rattle.skipping.specs.Places.{past, over, expected-at, expr-past, exprs-past, below-past, held-past}
+use Rattle.marks.specs.Marks.{mark-of, children}
+use Rattle.marks.specs.Constants.{is-some}
+use Rattle.tree.specs.Places.{Ends, lone, opened-at, bind-past, value-past, values-past}
 use Rattle.tree.specs.Places.{plain-past, array-past, extended-past, local-past, call-past, index-past, function-past, object-past}
-use Rattle.tree.specs.Left.{Behind}
-use Rattle.tree.proofs.Laws.{All, _also_, numbers-part, is-set-nonzero}
-use Rattle.tree.proofs.Binding.{past-seen, refused-seen, went, stopped, bind-ok, Both}
-use Rattle.tree.proofs.Leaves.{head-fits}
+use Rattle.skipping.specs.Behind.{Behind}
+use Rattle.marks.proofs.Laws.{All, _also_, numbers-part, is-set-nonzero}
+use Rattle.tree.proofs.Binding.{past-seen, refused-seen, went, stopped}
+use Rattle.skipping.proofs.Binding.{bind-ok, Both}
+use Rattle.skipping.proofs.Heads.{head-fits}
 use Rattle.tree.proofs.Definition.{expr-other, bind-function, bind-value}
 
 -- what is known by a mark's number in hand is known by the number itself

@@ -1,5 +1,4 @@
 -- What the contracts cite beside the rules.
 pub mod Seen
-pub mod Marks
 pub mod Places
 pub mod Left

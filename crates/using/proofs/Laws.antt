@@ -14,14 +14,15 @@ use Rattle.rules.specs.Writing as writing
 use Rattle.rules.specs.State as state
 use Rattle.rules.specs.Scoping as scoping
 use Rattle.rules.proofs.After.{After, fine, refused, after-ok, after-bind, after-need, after-choose, after-given}
-use Rattle.frames.specs.Meaning.{slot, frames-of}
-use Rattle.frames.specs.Kept.{Kept}
-use Rattle.frames.specs.Answers as resolver
-use Rattle.frames.specs.Answers.{ResolvesToSlot}
-use Rattle.frames.specs.declared.LSlot.{LSlot}
-use Rattle.frames.specs.declared.Resolved.{Resolved}
-use Rattle.frames.specs.declared.Resolved.the-variants.{To, Refused}
-use Rattle.frames.proofs.Resolving.{log-is-sum}
+use Rattle.captures.specs.Meaning.{slot}
+use Rattle.resolving.specs.Meaning.{frames-of}
+use Rattle.resolving.specs.Kept.{Kept}
+use Rattle.resolving.specs.Answers as resolver
+use Rattle.resolving.specs.Answers.{ResolvesToSlot}
+use Rattle.captures.specs.declared.LSlot.{LSlot}
+use Rattle.resolving.specs.declared.Resolved.{Resolved}
+use Rattle.resolving.specs.declared.Resolved.the-variants.{To, Refused}
+use Rattle.resolving.proofs.Resolving.{log-is-sum}
 use Rattle.state.specs.Seen.{buffers, stack, seen, limits-of, Fit, Fits}
 use Rattle.state.specs.declared.AnalysisStack.{AnalysisStack}
 use Rattle.state.specs.declared.Limits.{Limits}

@@ -4,8 +4,8 @@ use mathlib.Core.List.{List, [], _∷_}
 use mathlib.Core.Path.{_≡_}
 use Rattle.rules.specs.Writing as rules
 use Rattle.rules.specs.Scoping as scoping
-use Rattle.frames.specs.Meaning.{slot}
-use Rattle.frames.specs.declared.LSlot.{LSlot}
+use Rattle.captures.specs.Meaning.{slot}
+use Rattle.captures.specs.declared.LSlot.{LSlot}
 use Rattle.state.specs.Seen.{buffers, stack, seen, limits-of, Fit, Fits}
 use Rattle.state.specs.declared.AnalysisStack.{AnalysisStack}
 use Rattle.state.specs.declared.Limits.{Limits}

@@ -2,13 +2,13 @@
 ghost use mathlib.Core.Path.{_≡_};
 ghost use Prim.Native.Nat.{_*_, _≤_};
 ghost use lib.ListN.{length};
-ghost use Rattle.frames.specs.Kept.{Kept};
+ghost use Rattle.resolving.specs.Kept.{Kept};
 ghost use Rattle.using.specs.Answers.{SlotWritten, SlotEmitted};
-use frames::LSlot;
-use frames::Resolved;
-use frames::resolve_to_slot;
-use frames::slot_number;
+use captures::LSlot;
+use captures::slot_number;
 use locals::LocalId;
+use resolving::Resolved;
+use resolving::resolve_to_slot;
 use state::AnalysisStack;
 use state::Limits;
 use state::Step;

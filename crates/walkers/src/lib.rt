@@ -12,9 +12,6 @@ ghost use Rattle.runs.specs.Run.{Accepted, items-at, binds-at, params-at, heads
 ghost use Rattle.runs.specs.Run.{run-expr, run-items, run-assertions, run-values, run-heads, run-binds, run-params};
 ghost use Rattle.runs.specs.Steps.{first-defaults};
 ghost use Rattle.joins.specs.Ready.{not-opened, no-value, no-spec, not-kept, Ready, There, Plain-there, Held-there, Members-there, Fields-there, fields-steps, members-steps};
-use atoms::analyze_identity;
-use atoms::analyze_import;
-use atoms::analyze_variable;
 use atoms::copy_record;
 use atoms::emit_constants;
 use atoms::emit_head;
@@ -31,6 +28,18 @@ use keeping::close_assertions;
 use keeping::close_spec;
 use keeping::close_value;
 use keeping::record_spec_init;
+use leaves::is_leaf;
+use leaves::on_leaf;
+use marks::AR;
+use marks::AT;
+use marks::FN;
+use marks::LO;
+use marks::NA;
+use marks::OB;
+use marks::PT;
+use marks::children;
+use marks::constants;
+use marks::size_of;
 use opening::begin_function;
 use opening::begin_local;
 use opening::begin_object;
@@ -42,6 +51,7 @@ use opening::is_static;
 use opening::open_value;
 use packed::mark_at;
 use packed::number_at;
+use skipping::after_head;
 use state::AnalysisStack;
 use state::Limits;
 use state::Naming;
@@ -49,21 +59,6 @@ use state::Place;
 use state::Specs;
 use state::Step;
 use state::Walked;
-use tree::AR;
-use tree::AT;
-use tree::FN;
-use tree::ID;
-use tree::IM;
-use tree::LO;
-use tree::NA;
-use tree::OB;
-use tree::PT;
-use tree::TV;
-use tree::VA;
-use tree::after_head;
-use tree::children;
-use tree::constants;
-use tree::size_of;
 use writing::open_frame;
 
 // Whether the first of n parameters has a default.
@@ -138,32 +133,24 @@ pub fn analyze(
     ensures { λ r. ⌜ (Walks r limits (buffers (now (out .entry)) (now (diagnostics .entry)) (now (locals .entry)) (now (frames .entry)) (now (captures .entry)) (now (references .entry))) (buffers (now (out .exit)) (now (diagnostics .exit)) (now (locals .exit)) (now (frames .exit)) (now (captures .exit)) (now (references .exit))) st (λ limits σ. run-expr (now (tree .entry)) limits nest at (naming-of naming) (place-of here) σ)) ⌝ }
 {
     let mark = mark_at(tree, at);
+    if is_leaf(mark) {
+        return on_items(
+            tree,
+            out,
+            diagnostics,
+            locals,
+            frames,
+            captures,
+            references,
+            limits,
+            st,
+            at,
+            nest,
+            1,
+            here,
+        );
+    }
     match mark {
-        ID => analyze_identity(
-            tree,
-            out,
-            diagnostics,
-            locals,
-            frames,
-            captures,
-            limits,
-            st,
-            at,
-            here,
-        ),
-        TV => copy_record(tree, out, st, at, at + 6, TV),
-        VA => analyze_variable(
-            tree,
-            out,
-            diagnostics,
-            locals,
-            frames,
-            captures,
-            limits,
-            st,
-            at,
-            here,
-        ),
         AR => on_array(
             tree,
             out,
@@ -178,7 +165,6 @@ pub fn analyze(
             nest,
             here,
         ),
-        IM => analyze_import(tree, out, diagnostics, st, at),
         LO => on_local(
             tree,
             out,
@@ -748,8 +734,7 @@ fn on_fields(
     )
 }
 
-// An expression, or an `NA`, `PT` or `AT` with the expressions that it holds. Most items have nothing below them, so that these
-// do without the call of `analyze`, which does the same.
+// An expression, or an `NA`, `PT` or `AT` with the expressions that it holds.
 fn on_item(
     tree: &[u8],
     out: &mut [u8],
@@ -770,31 +755,6 @@ fn on_item(
 {
     let mark = mark_at(tree, at);
     match mark {
-        ID => analyze_identity(
-            tree,
-            out,
-            diagnostics,
-            locals,
-            frames,
-            captures,
-            limits,
-            st,
-            at,
-            here,
-        ),
-        TV => copy_record(tree, out, st, at, at + 6, TV),
-        VA => analyze_variable(
-            tree,
-            out,
-            diagnostics,
-            locals,
-            frames,
-            captures,
-            limits,
-            st,
-            at,
-            here,
-        ),
         NA => on_held(
             tree,
             out,
@@ -945,20 +905,39 @@ fn on_items(
     let mut p = at;
     let mut i: usize = 0;
     while i < n {
-        let w = on_item(
-            tree,
-            out,
-            diagnostics,
-            locals,
-            frames,
-            captures,
-            references,
-            limits,
-            state,
-            p,
-            nest,
-            here,
-        );
+        let mark = mark_at(tree, p);
+        let w = if is_leaf(mark) {
+            on_leaf(
+                tree,
+                out,
+                diagnostics,
+                locals,
+                frames,
+                captures,
+                references,
+                limits,
+                state,
+                p,
+                nest,
+                mark,
+                here,
+            )
+        } else {
+            on_item(
+                tree,
+                out,
+                diagnostics,
+                locals,
+                frames,
+                captures,
+                references,
+                limits,
+                state,
+                p,
+                nest,
+                here,
+            )
+        };
         match w {
             Walked::To(after, next) => {
                 state = after;

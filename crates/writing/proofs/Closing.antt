@@ -15,15 +15,18 @@ use Rattle.rules.specs.Frames.{LSlot, local-slot, capture-slot, Capture, Closur
 use Rattle.rules.specs.State as rules-state
 use Rattle.rules.specs.Writing.{pair-of, pairs-of, slot-number, shape-numbers}
 use Rattle.rules.specs.Writing as rules-writing
-use Rattle.packed.proofs.Laws.{length-numbers-bytes}
-use Rattle.packed.specs.Put.{Put}
-use Rattle.packed.specs.declared.Written.{Written}
-use Rattle.packed.specs.declared.Written.the-variants.{To, NoRoom}
-use Rattle.frames.specs.Meaning.{number, slot-kind, captures-of, frame-of, frames-of}
-use Rattle.frames.specs.Kept.{Kept}
-use Rattle.frames.specs.Answers.{Closed}
-use Rattle.frames.proofs.Laws.{captures-more, frames-top}
-use Rattle.frames.proofs.Resolving.{log-is-sum}
+use Rattle.putting.proofs.Laws.{length-numbers-bytes}
+use Rattle.putting.specs.Put.{Put}
+use Rattle.putting.specs.declared.Written.{Written}
+use Rattle.putting.specs.declared.Written.the-variants.{To, NoRoom}
+use Rattle.frames.specs.Meaning.{number}
+use Rattle.captures.specs.Meaning.{slot-kind, captures-of}
+use Rattle.resolving.specs.Meaning.{frame-of, frames-of}
+use Rattle.resolving.specs.Kept.{Kept}
+use Rattle.resolving.specs.Answers.{Closed}
+use Rattle.captures.proofs.Laws.{captures-more}
+use Rattle.resolving.proofs.Laws.{frames-top}
+use Rattle.resolving.proofs.Resolving.{log-is-sum}
 use Rattle.state.specs.Seen.{buffers, stack, seen, limits-of}
 use Rattle.state.specs.declared.AnalysisStack.{AnalysisStack}
 use Rattle.state.specs.declared.Limits.{Limits}

@@ -14,9 +14,9 @@ use Rattle.rules.specs.Numbers.{Mark, BL, code, mark-bytes, numbers-bytes, reco
 use Rattle.rules.specs.Records.{Span, span-numbers}
 use Rattle.rules.specs.State as rules-state
 use Rattle.rules.specs.Writing as rules-writing
-use Rattle.packed.specs.Put.{put, Put}
-use Rattle.packed.specs.declared.Written.{Written}
-use Rattle.packed.specs.declared.Written.the-variants.{To, NoRoom}
+use Rattle.putting.specs.Put.{put, Put}
+use Rattle.putting.specs.declared.Written.{Written}
+use Rattle.putting.specs.declared.Written.the-variants.{To, NoRoom}
 use Rattle.state.specs.Seen.{buffers, stack, seen, limits-of, Fit}
 use Rattle.state.specs.declared.AnalysisStack.{AnalysisStack}
 use Rattle.state.specs.declared.Limits.{Limits}

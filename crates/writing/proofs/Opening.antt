@@ -14,9 +14,10 @@ use Rattle.rules.specs.Frames.{new-frame, top, beneath}
 use Rattle.rules.specs.State as rules-state
 use Rattle.rules.specs.Writing as rules-writing
 use Rattle.locals.proofs.Laws.{length-locals}
-use Rattle.frames.specs.Meaning.{number, frame-of, frames-of}
-use Rattle.frames.specs.Answers.{Opened}
-use Rattle.frames.proofs.Laws.{below-or-top}
+use Rattle.frames.specs.Meaning.{number}
+use Rattle.resolving.specs.Meaning.{frame-of, frames-of}
+use Rattle.resolving.specs.Answers.{Opened}
+use Rattle.resolving.proofs.Laws.{below-or-top}
 use Rattle.state.specs.Seen.{buffers, stack, seen, limits-of, Fit}
 use Rattle.state.specs.declared.AnalysisStack.{AnalysisStack}
 use Rattle.state.specs.declared.Limits.{Limits}

@@ -8,9 +8,9 @@ use lib.ListN.{length, getD, take}
 use Rattle.rules.specs.Numbers.{Mark, SH, mark-bytes, record-bytes}
 use Rattle.rules.specs.Frames.{top}
 use Rattle.rules.specs.Writing as rules
-use Rattle.packed.specs.declared.Written.{Written}
-use Rattle.packed.specs.declared.Written.the-variants.{To, NoRoom}
-use Rattle.frames.specs.Meaning.{frames-of}
+use Rattle.putting.specs.declared.Written.{Written}
+use Rattle.putting.specs.declared.Written.the-variants.{To, NoRoom}
+use Rattle.resolving.specs.Meaning.{frames-of}
 use Rattle.state.specs.Seen.{span-of, buffers, stack, seen, limits-of, Fit, Fits}
 use Rattle.state.specs.declared.AnalysisStack.{AnalysisStack}
 use Rattle.state.specs.declared.Limits.{Limits}

@@ -5,14 +5,14 @@ ghost use Prim.Native.Nat.{ℕ, _*_, _≤_, _<_};
 ghost use lib.ListN.{length};
 ghost use Rattle.rules.specs.Numbers.{numbers-bytes};
 ghost use Rattle.rules.specs.Writing.{level-number, pairs-of};
-ghost use Rattle.frames.specs.Meaning.{captures-of};
-ghost use Rattle.frames.specs.Kept.{Kept, SmallSource};
+ghost use Rattle.captures.specs.Meaning.{captures-of, SmallSource};
+ghost use Rattle.resolving.specs.Kept.{Kept};
 ghost use Rattle.writing.specs.Answers.{level-of, shape-bytes, Behind, Emitted, Reported, BadPlace, FrameOpened, FrameClosed};
-use frames::Next;
-use frames::slot_kind;
-use frames::slot_number;
-use packed::Written;
-use packed::put_record;
+use captures::Next;
+use captures::slot_kind;
+use captures::slot_number;
+use putting::Written;
+use putting::put_record;
 use state::AnalysisStack;
 use state::Limits;
 use state::Step;
@@ -116,7 +116,7 @@ pub fn open_frame(
     if limits.max_frames <= n {
         return Step::Refused(7, place);
     }
-    frames::open_frame(frames, n, is_defining, st.locals, 0, st.captures);
+    resolving::open_frame(frames, n, is_defining, st.locals, 0, st.captures);
     let mut after = st;
     after.frames = n + 1;
     Step::Ok(after)
@@ -149,7 +149,7 @@ fn put_pairs(
     let mut to = used;
     let mut at = from;
     while at < count {
-        let next = frames::next_capture(captures, at, count, owner);
+        let next = captures::next_capture(captures, at, count, owner);
         let Next::At(i, source) = next else {
             return Written::To(to);
         };
@@ -178,7 +178,7 @@ fn put_shape(
     let owner = n - 1;
     let frame = frames::frame_at(frames, owner);
     let from = frame.captures_from;
-    let k = frames::n_captures(captures, from, count, owner);
+    let k = captures::n_captures(captures, from, count, owner);
     let written = put_record(out, used, b"SH", &[frame.n_locals, k]);
     match written {
         Written::To(next) => put_pairs(out, next, captures, from, count, owner),
@@ -208,7 +208,7 @@ pub fn close_frame(
             let mut after = st;
             after.out = end;
             after.frames = n - 1;
-            after.captures = frames::close_frame(frames, captures, n, st.captures);
+            after.captures = resolving::close_frame(frames, captures, n, st.captures);
             Step::Ok(after)
         }
         Written::NoRoom => Step::Refused(9, place),

@@ -4,7 +4,8 @@ use mathlib.Core.Path.{sym, _∙_}
 use native.Mathlib.Omega.{arith}
 use lib.ListN.{length}
 use borrow.Author.Tests.{leb-true}
-use Rattle.atoms.proofs.Copying.{record-copied, record-refused}
+use Rattle.marks.specs.Marks.{mark-of}
+use Rattle.atoms.proofs.Copying.{record-sized, record-copied, record-refused}
 use borrow.Author.Needs.{needs}
 use Rattle.atoms.proofs.copy_record.Statement.{statement}
 use Rattle.atoms.proofs.copy_record.Tie as tie
@@ -19,7 +20,7 @@ add-end : tie.Need-add-end
 add-end c = omega (arith, leb-true (c .before .before .before .before .before .before .before .args .st .out + c .before .before .before .before .size-of .result) (length (c .before .before .before .before .before .before .before .args .out .now)) (sym (c .before .before .has-room .ensures) ∙ c .before .if1 .taken))
 
 copy-bytes-requires : tie.Need-copy-bytes-requires
-copy-bytes-requires c κs = (leb-true _ _ (sym (c .before .before .before .has-room .ensures) ∙ c .before .before .if1 .taken), omega (arith, c .before .before .before .before .before .before .before .before .pre .0, c .before .before .before .before .before .size-of .ensures .0))
+copy-bytes-requires c κs = (leb-true _ _ (sym (c .before .before .before .has-room .ensures) ∙ c .before .before .if1 .taken), omega (arith, c .before .before .before .before .before .before .before .before .pre .0, c .before .before .before .before .before .size-of .ensures .0), record-sized (mark-of (c .before .before .before .before .before .before .before .before .args .mark)) (c .before .before .before .before .before .size-of .ensures .0))
 
 same-length : tie.Need-same-length
 same-length c = search needs

@@ -21,23 +21,23 @@ loop-holds : tie.Need-loop-holds Inv-loop μ-loop
 unfolding values-from numbers-bytes
 loop-holds c = (omega arith, refl, refl)
 
-mul-copy-bytes : tie.Need-mul-copy-bytes Inv-loop μ-loop
-mul-copy-bytes c = omega (arith, c .before .before .before .before .before .pre .0, c .before .before .before .before .before .pre .1)
+mul-copy-four : tie.Need-mul-copy-four Inv-loop μ-loop
+mul-copy-four c = omega (arith, c .before .before .before .before .before .pre .0, c .before .before .before .before .before .pre .1)
 
-add-copy-bytes : tie.Need-add-copy-bytes Inv-loop μ-loop
-add-copy-bytes c = omega (arith, c .before .before .before .before .before .pre .0, c .before .before .before .before .before .pre .1)
+add-copy-four : tie.Need-add-copy-four Inv-loop μ-loop
+add-copy-four c = omega (arith, c .before .before .before .before .before .pre .0, c .before .before .before .before .before .pre .1)
 
-mul-copy-bytes-2 : tie.Need-mul-copy-bytes-2 Inv-loop μ-loop
-mul-copy-bytes-2 c = omega (arith, c .before .before .before .before .before .pre .0, c .before .before .before .before .before .pre .1)
+mul-copy-four-2 : tie.Need-mul-copy-four-2 Inv-loop μ-loop
+mul-copy-four-2 c = omega (arith, c .before .before .before .before .before .pre .0, c .before .before .before .before .before .pre .1)
 
-add-copy-bytes-2 : tie.Need-add-copy-bytes-2 Inv-loop μ-loop
-add-copy-bytes-2 c = omega (arith, c .before .before .before .before .before .pre .0, c .before .before .before .before .before .pre .1)
+add-copy-four-2 : tie.Need-add-copy-four-2 Inv-loop μ-loop
+add-copy-four-2 c = omega (arith, c .before .before .before .before .before .pre .0, c .before .before .before .before .before .pre .1)
 
-add-copy-bytes-3 : tie.Need-add-copy-bytes-3 Inv-loop μ-loop
-add-copy-bytes-3 c = omega (arith, c .before .before .before .before .before .pre .0, c .before .before .before .before .before .pre .1)
+add-copy-four-3 : tie.Need-add-copy-four-3 Inv-loop μ-loop
+add-copy-four-3 c = omega (arith, c .before .before .before .before .before .pre .0, c .before .before .before .before .before .pre .1)
 
-copy-bytes-requires : tie.Need-copy-bytes-requires Inv-loop μ-loop
-copy-bytes-requires c κs = (omega (arith, c .before .before .before .before .before .pre .0, c .before .before .loop .inv .1), omega (arith, c .before .before .before .before .before .pre .1))
+copy-four-requires : tie.Need-copy-four-requires Inv-loop μ-loop
+copy-four-requires c κs = (omega (arith, c .before .before .before .before .before .pre .0, c .before .before .loop .inv .1), omega (arith, c .before .before .before .before .before .pre .1))
 
 add-i : tie.Need-add-i Inv-loop μ-loop
 add-i c = omega arith
@@ -49,7 +49,7 @@ loop-again : tie.Need-loop-again Inv-loop μ-loop
 loop-again c =
     let args· = c .before .before .before .before .before .before .before .before .args in
     let loop· = c .before .before .before .before .before .loop in
-    let copied· = c .before .before .copy-bytes in
+    let copied· = c .before .before .copy-four in
     let e = copied· .ensures ∙ ap (λ (l : List ℕ). sets l (args· .used + 4 * loop· .i) (take 4 (drop (args· .at + 6 * loop· .i + 2) (args· .tree .now)))) (loop· .inv .2) ∙ value-more (args· .out .now) (args· .used) (args· .tree .now) (λ (k : ℕ). omega (arith, c .before .before .before .before .before .before .shared-slice-known .given k)) (args· .at) (loop· .i) (args· .n) (omega arith) (c .before .before .before .before .before .before .before .before .pre .1) in
     (omega arith, ap length e ∙ simp length-sets, e)
 
@@ -66,12 +66,12 @@ copy-values-spec =
     Inv-loop
     μ-loop
     loop-holds
-    mul-copy-bytes
-    add-copy-bytes
-    mul-copy-bytes-2
-    add-copy-bytes-2
-    add-copy-bytes-3
-    copy-bytes-requires
+    mul-copy-four
+    add-copy-four
+    mul-copy-four-2
+    add-copy-four-2
+    add-copy-four-3
+    copy-four-requires
     add-i
     loop-less
     loop-again

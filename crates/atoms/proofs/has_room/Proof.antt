@@ -3,7 +3,7 @@ use mathlib.Core.Path.{sym}
 use borrow.Author.Tests.{lt-leb}
 use Prim.Native.Nat.{_+_}
 use lib.ListN.{length}
-use Rattle.tree.proofs.Laws.{leb-minus}
+use Rattle.marks.proofs.Laws.{leb-minus}
 use borrow.Author.Needs.{needs}
 use native.Mathlib.Omega.{arith}
 use Rattle.atoms.proofs.has_room.Statement.{statement}

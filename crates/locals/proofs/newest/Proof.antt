@@ -1,5 +1,5 @@
 -- `newest` finds the newest local with a name. The invariant: the newest of those that are left is the newest of all. Assumes nothing.
-use mathlib.Core.Path.{_≡_, refl, sym, _∙_}
+use mathlib.Core.Path.{_≡_, sym, _∙_}
 use Rattle.rules.specs.Locals.{newest}
 use Rattle.locals.specs.Meaning.{found}
 use Rattle.locals.proofs.Finding.{Searching, passed-without-name, passed-other-name, found-here}
@@ -13,8 +13,11 @@ Inv-loop locals name first n left₀ left = Searching locals name first n left
 abbrev μ-loop : tie.MeasureT-loop
 μ-loop locals name first n left₀ left = left
 
+left-to-search-requires : tie.Need-left-to-search-requires Inv-loop μ-loop
+left-to-search-requires c κs = (omega arith, omega arith)
+
 loop-holds : tie.Need-loop-holds Inv-loop μ-loop
-loop-holds c = record { within = omega arith; same = λ total h. refl }
+loop-holds c = record { within = c .left-to-search .ensures .0; same = c .left-to-search .ensures .1 }
 
 sub-left : tie.Need-sub-left Inv-loop μ-loop
 sub-left c = omega arith
@@ -77,6 +80,7 @@ newest-spec =
     (tie.spec
     Inv-loop
     μ-loop
+    left-to-search-requires
     loop-holds
     sub-left
     add-at

@@ -1,5 +1,5 @@
 -- `touch_local` is the rules'. Assumes nothing.
-use Rattle.naming.proofs.Using.{touched}
+use Rattle.naming.proofs.Using.{touches-only, touched}
 use borrow.Author.Needs.{needs}
 use Rattle.naming.proofs.touch_local.Statement.{statement}
 use Rattle.naming.proofs.touch_local.Tie as tie
@@ -13,8 +13,8 @@ use-at-requires c κs = search needs
 note-reference-requires : tie.Need-note-reference-requires
 note-reference-requires c κs = search needs
 
-put-local-requires : tie.Need-put-local-requires
-put-local-requires c κs = search needs
+put-use-requires : tie.Need-put-use-requires
+put-use-requires c κs = (search needs, touches-only _ (c .before .before .before .before .before .before .args .st) (c .before .before .before .before .before .before .args .id .0) (c .before .before .before .local-at .result) (c .before .before .before .before .before .before .pre .1) (c .before .before .before .local-at .ensures) (c .before .before .use-at .result) _ (c .before .before .before .before .before .before .args .depth) (c .note-reference .ensures) (c .before .before .use-at .ensures))
 
 taint-by-local-requires : tie.Need-taint-by-local-requires
 taint-by-local-requires c κs = search needs
@@ -23,7 +23,7 @@ same-length : tie.Need-same-length
 same-length c = search needs
 
 returns : tie.Need-returns
-returns c = touched _ _ _ (c .before .before .before .before .before .before .before .before .local-at .result) (c .before .before .before .before .before .before .before .before .before .before .before .pre .1) (c .before .before .before .before .before .before .before .before .local-at .ensures) (c .before .before .before .before .before .before .before .use-at .result) _ _ (c .before .before .before .before .put-local .ensures) (c .before .before .before .before .before .note-reference .ensures) (c .before .before .before .before .before .before .before .use-at .ensures) (c .taint-by-local .ensures)
+returns c = touched _ (c .before .before .before .before .before .before .before .before .before .before .before .args .st) (c .before .before .before .before .before .before .before .before .before .before .before .args .id .0) (c .before .before .before .before .before .before .before .before .local-at .result) (c .before .before .before .before .before .before .before .before .before .before .before .pre .1) (c .before .before .before .before .before .before .before .before .local-at .ensures) (c .before .before .before .before .before .before .before .use-at .result) _ _ (c .before .before .before .before .put-use .ensures) (c .before .before .before .before .before .note-reference .ensures) (c .before .before .before .before .before .before .before .use-at .ensures) (c .taint-by-local .ensures)
 
 pub touch-local-spec : {M : Type 1} → statement M
 touch-local-spec =
@@ -32,7 +32,7 @@ touch-local-spec =
     local-at-requires
     use-at-requires
     note-reference-requires
-    put-local-requires
+    put-use-requires
     taint-by-local-requires
     same-length
     returns)

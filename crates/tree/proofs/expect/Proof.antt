@@ -1,6 +1,6 @@
 -- `tree::expect` meets its contract. Assumes nothing.
 use lib.ListN.{length}
-use Rattle.tree.proofs.Laws.{room-there, room-missing}
+use Rattle.marks.proofs.Laws.{room-there, room-missing}
 use Rattle.tree.proofs.Leaves.{expect-short, expect-other, expect-first}
 use borrow.Author.Needs.{needs}
 use Rattle.tree.proofs.expect.Statement.{statement}

@@ -2,7 +2,7 @@
 use Rattle.rules.specs.Outcome.{choose}
 use Rattle.rules.specs.Numbers.{code}
 use Rattle.rules.specs.Records.{size-of, numbers-of, widths, width, fields}
-use Rattle.tree.specs.Marks.{mark-of, find-mark, marks}
+use Rattle.marks.specs.Marks.{mark-of, find-mark, marks}
 use Rattle.tree.proofs.Whole.{tree-refused, many-names, names-missing, root-refused, bytes-follow, all-read}
 use borrow.Author.Needs.{needs}
 use native.Mathlib.Omega.{arith}

@@ -3,8 +3,9 @@ use mathlib.Core.Path.{sym, ap, _∙_}
 use lib.ListN.{length}
 use borrow.Author.Tests.{not-true, not-false}
 use Rattle.rules.specs.Records.{all-in-range, fields, numbers-of}
-use Rattle.tree.specs.Marks.{mark-of}
-use Rattle.tree.proofs.Laws.{room-there, room-missing, numbers-part, judged-short, judged-wrong, judged-right}
+use Rattle.marks.specs.Marks.{mark-of}
+use Rattle.marks.proofs.Laws.{room-there, room-missing, numbers-part}
+use Rattle.tree.proofs.Laws.{judged-short, judged-wrong, judged-right}
 use borrow.Author.Needs.{needs}
 use native.Mathlib.Omega.{arith}
 use Rattle.tree.proofs.judged.Statement.{statement}

@@ -2,8 +2,8 @@
 use mathlib.Core.Path.{refl, ap}
 use Rattle.rules.specs.Numbers.{LS, CS, mark-bytes, code}
 use Rattle.rules.specs.Writing.{slot-mark}
-use Rattle.frames.specs.Meaning.{slot}
-use Rattle.frames.specs.declared.LSlot.{LSlot}
+use Rattle.captures.specs.Meaning.{slot}
+use Rattle.captures.specs.declared.LSlot.{LSlot}
 use Rattle.using.proofs.Laws.{slot-written}
 use borrow.Author.Needs.{needs}
 use Rattle.using.proofs.write_slot.Statement.{statement}

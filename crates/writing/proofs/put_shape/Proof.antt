@@ -1,7 +1,7 @@
 -- `put_shape` puts the record of the top frame's shape. Assumes nothing.
 use native.Mathlib.Omega.{arith}
 use borrow.Author.Needs.{needs}
-use Rattle.frames.proofs.Resolving.{none-before}
+use Rattle.resolving.proofs.Resolving.{none-before}
 use Rattle.writing.proofs.Closing.{shape-behind, shape-full}
 use Rattle.writing.proofs.put_shape.Statement.{statement}
 use Rattle.writing.proofs.put_shape.Tie as tie

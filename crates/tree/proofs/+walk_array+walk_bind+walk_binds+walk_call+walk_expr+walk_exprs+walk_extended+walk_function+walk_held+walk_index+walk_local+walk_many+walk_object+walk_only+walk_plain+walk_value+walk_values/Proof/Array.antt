@@ -6,14 +6,14 @@ use native.Mathlib.Omega.{arith}
 use Rattle.rules.specs.Outcome.{choose}
 use Rattle.rules.specs.Numbers.{code}
 use Rattle.rules.specs.Records.{size-of, numbers-of, widths, width, fields}
-use Rattle.tree.specs.Marks.{mark-of, find-mark, marks}
-use Rattle.tree.proofs.Leaves.{constants-fit}
+use Rattle.marks.specs.Marks.{mark-of, find-mark, marks}
+use Rattle.marks.proofs.Turns.{constants-fit}
 use Rattle.tree.proofs.Walks.{array-refused, array-constant, array-went}
 use Rattle.tree.proofs.walk_array.Reads as walk-array
 use Rattle.tree.proofs.+walk_array+walk_bind+walk_binds+walk_call+walk_expr+walk_exprs+walk_extended+walk_function+walk_held+walk_index+walk_local+walk_many+walk_object+walk_only+walk_plain+walk_value+walk_values.Lts-walk_array as walk-array-lts
 use Rattle.tree.proofs.walk_exprs.Reads as walk-exprs
 use Rattle.packed.proofs.number_at.Reads as number-at-reads
-use Rattle.tree.proofs.constants.Reads as constants-reads
+use Rattle.marks.proofs.constants.Reads as constants-reads
 use Rattle.tree.proofs.opened.Reads as opened-reads
 use Rattle.tree.proofs.wide.Reads as wide-reads
 use Rattle.tree.proofs.+walk_array+walk_bind+walk_binds+walk_call+walk_expr+walk_exprs+walk_extended+walk_function+walk_held+walk_index+walk_local+walk_many+walk_object+walk_only+walk_plain+walk_value+walk_values.Proof.Measures.{walk-array-at, walk-exprs-below}

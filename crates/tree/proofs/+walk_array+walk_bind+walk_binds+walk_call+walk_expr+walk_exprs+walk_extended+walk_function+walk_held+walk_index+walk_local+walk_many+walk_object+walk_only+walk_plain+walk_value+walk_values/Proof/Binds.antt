@@ -2,7 +2,8 @@
 use Prim.Native.Nat.{ℕ, _-_}
 use borrow.Author.Needs.{needs}
 use native.Mathlib.Omega.{arith}
-use Rattle.tree.specs.Places.{over, bind-past}
+use Rattle.skipping.specs.Places.{over}
+use Rattle.tree.specs.Places.{bind-past}
 use Rattle.tree.proofs.Turns.{Turn, turn-begin, turn-stop, turn-next, turn-end}
 use Rattle.tree.proofs.walk_bind.Reads as walk-bind
 use Rattle.tree.proofs.walk_binds.Reads as walk-binds

@@ -6,7 +6,7 @@ use native.Mathlib.Omega.{arith}
 use Rattle.rules.specs.Outcome.{choose}
 use Rattle.rules.specs.Numbers.{code}
 use Rattle.rules.specs.Records.{size-of, numbers-of, widths, width, fields}
-use Rattle.tree.specs.Marks.{mark-of, find-mark, marks}
+use Rattle.marks.specs.Marks.{mark-of, find-mark, marks}
 use Rattle.tree.proofs.Walks.{call-refused, values-refused, call-went}
 use Rattle.tree.proofs.walk_call.Reads as walk-call
 use Rattle.tree.proofs.+walk_array+walk_bind+walk_binds+walk_call+walk_expr+walk_exprs+walk_extended+walk_function+walk_held+walk_index+walk_local+walk_many+walk_object+walk_only+walk_plain+walk_value+walk_values.Lts-walk_call as walk-call-lts

@@ -7,7 +7,7 @@ use lib.ListN.{length}
 use Rattle.rules.specs.Numbers.{code}
 use Rattle.rules.specs.FirstWalk.{any-expression, rows}
 use Rattle.tree.specs.Places.{opened-at, plain-past}
-use Rattle.tree.proofs.Laws.{room-there, room-missing, all-none, _also_}
+use Rattle.marks.proofs.Laws.{room-there, room-missing, all-none, _also_}
 use Rattle.tree.proofs.Definition.{expr-short, expr-identity, expr-constant, expr-variable, expr-array, expr-extended, expr-unary, expr-binary, expr-assert, expr-local, expr-error, expr-import, expr-call, expr-index, expr-function, expr-if, expr-slice, expr-object}
 use Rattle.tree.proofs.Walks.{by-mark, expr-unknown}
 use Rattle.tree.proofs.walk_array.Reads as walk-array
@@ -21,7 +21,7 @@ use Rattle.tree.proofs.walk_local.Reads as walk-local
 use Rattle.tree.proofs.walk_object.Reads as walk-object
 use Rattle.tree.proofs.walk_plain.Reads as walk-plain
 use Rattle.packed.proofs.mark_at.Reads as mark-at-reads
-use Rattle.tree.proofs.has_room.Reads as has-room-reads
+use Rattle.marks.proofs.has_room.Reads as has-room-reads
 use Rattle.tree.proofs.opened.Reads as opened-reads
 use Rattle.tree.proofs.+walk_array+walk_bind+walk_binds+walk_call+walk_expr+walk_exprs+walk_extended+walk_function+walk_held+walk_index+walk_local+walk_many+walk_object+walk_only+walk_plain+walk_value+walk_values.Proof.Measures.{walk-array-below, walk-call-below, walk-expr-at, walk-extended-below, walk-function-below, walk-index-below, walk-local-below, walk-object-below, walk-plain-below}
 

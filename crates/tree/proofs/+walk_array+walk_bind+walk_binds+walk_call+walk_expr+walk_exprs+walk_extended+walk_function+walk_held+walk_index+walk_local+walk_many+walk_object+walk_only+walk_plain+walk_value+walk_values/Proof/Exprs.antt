@@ -3,7 +3,7 @@ use Prim.Native.Nat.{ℕ, _-_}
 use borrow.Author.Needs.{needs}
 use native.Mathlib.Omega.{arith}
 use Rattle.rules.specs.FirstWalk.{any-expression}
-use Rattle.tree.specs.Places.{over, expr-past, exprs-past}
+use Rattle.skipping.specs.Places.{over, expr-past, exprs-past}
 use Rattle.tree.proofs.Turns.{Turn, turn-begin, turn-stop, turn-next, turn-end}
 use Rattle.tree.proofs.walk_expr.Reads as walk-expr
 use Rattle.tree.proofs.walk_exprs.Reads as walk-exprs

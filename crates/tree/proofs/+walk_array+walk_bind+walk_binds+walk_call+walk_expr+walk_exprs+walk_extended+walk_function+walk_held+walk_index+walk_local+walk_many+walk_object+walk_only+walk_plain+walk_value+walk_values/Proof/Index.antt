@@ -5,7 +5,7 @@ use native.Mathlib.Omega.{arith}
 use Rattle.rules.specs.Outcome.{choose}
 use Rattle.rules.specs.Numbers.{code}
 use Rattle.rules.specs.Records.{size-of, numbers-of, widths, width, fields}
-use Rattle.tree.specs.Marks.{mark-of, find-mark, marks}
+use Rattle.marks.specs.Marks.{mark-of, find-mark, marks}
 use Rattle.tree.proofs.Walks.{index-refused, value-refused, index-went}
 use Rattle.tree.proofs.walk_expr.Reads as walk-expr
 use Rattle.tree.proofs.walk_index.Reads as walk-index

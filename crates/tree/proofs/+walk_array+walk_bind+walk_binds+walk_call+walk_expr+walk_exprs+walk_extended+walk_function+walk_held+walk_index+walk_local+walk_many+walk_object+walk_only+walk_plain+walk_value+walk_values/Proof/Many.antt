@@ -2,7 +2,7 @@
 use Prim.Native.Nat.{ℕ, _-_}
 use borrow.Author.Needs.{needs}
 use native.Mathlib.Omega.{arith}
-use Rattle.tree.specs.Places.{over, held-past}
+use Rattle.skipping.specs.Places.{over, held-past}
 use Rattle.tree.proofs.Turns.{Turn, turn-begin, turn-stop, turn-next, turn-end}
 use Rattle.tree.proofs.walk_held.Reads as walk-held
 use Rattle.tree.proofs.walk_many.Reads as walk-many

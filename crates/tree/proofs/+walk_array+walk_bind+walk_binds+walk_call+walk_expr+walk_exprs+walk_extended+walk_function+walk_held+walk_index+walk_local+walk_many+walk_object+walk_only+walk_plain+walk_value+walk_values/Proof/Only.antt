@@ -4,13 +4,13 @@ use mathlib.Core.Path.{sym, _∙_}
 use borrow.Author.Needs.{needs}
 use native.Mathlib.Omega.{arith}
 use lib.ListN.{length}
-use Rattle.tree.proofs.Laws.{room-there, room-missing}
+use Rattle.marks.proofs.Laws.{room-there, room-missing}
 use Rattle.tree.proofs.Definition.{lone-short, lone-other, lone-here}
 use Rattle.tree.proofs.walk_expr.Reads as walk-expr
 use Rattle.tree.proofs.walk_only.Reads as walk-only
 use Rattle.tree.proofs.+walk_array+walk_bind+walk_binds+walk_call+walk_expr+walk_exprs+walk_extended+walk_function+walk_held+walk_index+walk_local+walk_many+walk_object+walk_only+walk_plain+walk_value+walk_values.Lts-walk_only as walk-only-lts
 use Rattle.packed.proofs.mark_at.Reads as mark-at-reads
-use Rattle.tree.proofs.has_room.Reads as has-room-reads
+use Rattle.marks.proofs.has_room.Reads as has-room-reads
 use Rattle.tree.proofs.+walk_array+walk_bind+walk_binds+walk_call+walk_expr+walk_exprs+walk_extended+walk_function+walk_held+walk_index+walk_local+walk_many+walk_object+walk_only+walk_plain+walk_value+walk_values.Proof.Measures.{walk-expr-below, walk-only-at}
 
 walk-only-has-room-requires : (t : ℕ) → walk-only-lts.Need-has-room-requires (

@@ -6,7 +6,7 @@ use Rattle.tree.proofs.Walks.{plain-refused, plain-went}
 use Rattle.tree.proofs.walk_exprs.Reads as walk-exprs
 use Rattle.tree.proofs.walk_plain.Reads as walk-plain
 use Rattle.tree.proofs.+walk_array+walk_bind+walk_binds+walk_call+walk_expr+walk_exprs+walk_extended+walk_function+walk_held+walk_index+walk_local+walk_many+walk_object+walk_only+walk_plain+walk_value+walk_values.Lts-walk_plain as walk-plain-lts
-use Rattle.tree.proofs.children.Reads as children-reads
+use Rattle.marks.proofs.children.Reads as children-reads
 use Rattle.tree.proofs.opened.Reads as opened-reads
 use Rattle.tree.proofs.+walk_array+walk_bind+walk_binds+walk_call+walk_expr+walk_exprs+walk_extended+walk_function+walk_held+walk_index+walk_local+walk_many+walk_object+walk_only+walk_plain+walk_value+walk_values.Proof.Measures.{walk-exprs-below, walk-plain-at}
 

@@ -7,7 +7,7 @@ use Rattle.tree.proofs.Walks.{Values-turn, values-begin, values-end, he
 use Rattle.tree.proofs.walk_value.Reads as walk-value
 use Rattle.tree.proofs.walk_values.Reads as walk-values
 use Rattle.tree.proofs.+walk_array+walk_bind+walk_binds+walk_call+walk_expr+walk_exprs+walk_extended+walk_function+walk_held+walk_index+walk_local+walk_many+walk_object+walk_only+walk_plain+walk_value+walk_values.Lts-walk_values as walk-values-lts
-use Rattle.tree.proofs.after_head.Reads as after-head-reads
+use Rattle.skipping.proofs.after_head.Reads as after-head-reads
 use Rattle.tree.proofs.+walk_array+walk_bind+walk_binds+walk_call+walk_expr+walk_exprs+walk_extended+walk_function+walk_held+walk_index+walk_local+walk_many+walk_object+walk_only+walk_plain+walk_value+walk_values.Proof.Measures.{walk-value-below, walk-values-at}
 
 abbrev walk-values-Inv-loop : walk-values-lts.InvT-loop

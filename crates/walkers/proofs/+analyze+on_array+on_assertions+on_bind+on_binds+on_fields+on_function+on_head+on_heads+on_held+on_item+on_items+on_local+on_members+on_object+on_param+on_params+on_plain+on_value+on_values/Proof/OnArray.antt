@@ -14,6 +14,7 @@ use Rattle.joins.proofs.Joining.{unopened, went-fit}
 use Rattle.joins.proofs.Readiness.{ready-on}
 use Rattle.joins.proofs.Onward.{ready-opened}
 use Rattle.joins.proofs.Asking.{opened}
+use Rattle.leaves.proofs.Laws.{rank-falls}
 use Rattle.joins.proofs.Returns.{told, array-constant, array-unopened, array-stopped, array-ended}
 use Rattle.walkers.proofs.on_array.Reads as on-array
 use Rattle.walkers.proofs.+analyze+on_array+on_assertions+on_bind+on_binds+on_fields+on_function+on_head+on_heads+on_held+on_item+on_items+on_local+on_members+on_object+on_param+on_params+on_plain+on_value+on_values.Lts-on_array as on-array-lts
@@ -21,7 +22,7 @@ use Rattle.walkers.proofs.on_items.Reads as on-items
 use Rattle.atoms.proofs.emit_constants.Reads as emit-constants-reads
 use Rattle.keeping.proofs.close_array.Reads as close-array-reads
 use Rattle.packed.proofs.number_at.Reads as number-at-reads
-use Rattle.tree.proofs.constants.Reads as constants-reads
+use Rattle.marks.proofs.constants.Reads as constants-reads
 use Rattle.walkers.proofs.not_opened.Reads as not-opened-reads
 use Rattle.writing.proofs.open_frame.Reads as open-frame-reads
 use Rattle.walkers.proofs.+analyze+on_array+on_assertions+on_bind+on_binds+on_fields+on_function+on_head+on_heads+on_held+on_item+on_items+on_local+on_members+on_object+on_param+on_params+on_plain+on_value+on_values.Proof.Measures.{on-array-at, on-items-below}
@@ -403,14 +404,14 @@ on-array-on-items-requires : (t : ℕ) → on-array-lts.Need-on-items-requires (
   close-array-reads.Learnt,
 ) (on-array-at t) on-array.Post
 on-array-on-items-requires t c κs =
-    let pre· = c .before .before .before .before .before .before .before .before .before .before .before .before .before .before .before .before .before .before .before .before .before .before .before .pre in
     let args· = c .before .before .before .before .before .before .before .before .before .before .before .before .before .before .before .before .before .before .before .before .before .before .before .args in
+    let pre· = c .before .before .before .before .before .before .before .before .before .before .before .before .before .before .before .before .before .before .before .before .before .before .before .pre in
     let open-frame· = c .before .before .before .before .before .before .before .before .before .before .before .open-frame in
     let opened· = c .before .before .before .before .before .before .before .opened in
     let number-at· = c .before .before .before .before .before .before .before .before .before .before .before .before .before .before .before .number-at in
     let constants· = c .before .before .before .before .before .before .before .before .before .before .before .before .before .before .constants in
     let if1· = c .before .before .before .before .before .before .before .before .before .before .before .before .before .if1 in
-    (omega (arith, pre· .0, (expr-level (args· .tree .now) (args· .nest) any-expression (args· .at) ((pre· .1 .1) .read))), ((ready-on (omega arith) (omega arith) (ready-opened (args· .at) false (pre· .1 .0) (opened (open-frame· .ensures) ((pre· .1 .0) .fit)) (opened· .given .1))), (subst (λ (k : ℕ). Accepted (items-at (args· .tree .now) ((args· .nest) - 1) k ((args· .at) + 6))) (sym (number-at· .ensures)) (array-items (args· .tree .now) (args· .nest) (args· .at) ((pre· .1 .1) .read) ((pre· .1 .1) .marked) (told (args· .tree .now) (args· .at) (number-at· .ensures) (constants· .ensures) (if1· .left))))))
+    (rank-falls (args· .tree .now) _ _ ((args· .nest) - 1) (omega (arith, pre· .0, (expr-level (args· .tree .now) (args· .nest) any-expression (args· .at) ((pre· .1 .1) .read)))), ((ready-on (omega arith) (omega arith) (ready-opened (args· .at) false (pre· .1 .0) (opened (open-frame· .ensures) ((pre· .1 .0) .fit)) (opened· .given .1))), (subst (λ (k : ℕ). Accepted (items-at (args· .tree .now) ((args· .nest) - 1) k ((args· .at) + 6))) (sym (number-at· .ensures)) (array-items (args· .tree .now) (args· .nest) (args· .at) ((pre· .1 .1) .read) ((pre· .1 .1) .marked) (told (args· .tree .now) (args· .at) (number-at· .ensures) (constants· .ensures) (if1· .left))))))
 
 on-array-enum-known-w : (t : ℕ) → on-array-lts.Need-enum-known-w (
   number-at-reads.Asked,

@@ -9,6 +9,7 @@ use Rattle.state.specs.Walks.{place-of}
 use Rattle.joins.proofs.Joining.{unopened, went-fit}
 use Rattle.joins.proofs.Onward.{ready-opened}
 use Rattle.joins.proofs.Asking.{opened}
+use Rattle.leaves.proofs.Laws.{rank-falls}
 use Rattle.joins.proofs.Returns.{assertions-nothing, assertions-unopened, assertions-stopped, assertions-ended}
 use Rattle.walkers.proofs.on_assertions.Reads as on-assertions
 use Rattle.walkers.proofs.+analyze+on_array+on_assertions+on_bind+on_binds+on_fields+on_function+on_head+on_heads+on_held+on_item+on_items+on_local+on_members+on_object+on_param+on_params+on_plain+on_value+on_values.Lts-on_assertions as on-assertions-lts
@@ -126,11 +127,11 @@ on-assertions-on-items-requires : (t : ℕ) → on-assertions-lts.Need-on-items-
   close-assertions-reads.Learnt,
 ) (on-assertions-at t) on-assertions.Post
 on-assertions-on-items-requires t c κs =
-    let pre· = c .before .before .before .before .before .before .before .before .before .before .before .before .before .before .before .before .before .before .before .before .before .pre in
     let args· = c .before .before .before .before .before .before .before .before .before .before .before .before .before .before .before .before .before .before .before .before .before .args in
+    let pre· = c .before .before .before .before .before .before .before .before .before .before .before .before .before .before .before .before .before .before .before .before .before .pre in
     let open-frame· = c .before .before .before .before .before .before .before .before .before .before .before .open-frame in
     let opened· = c .before .before .before .before .before .before .before .opened in
-    (omega (arith, pre· .0), ((ready-opened (args· .at) false (pre· .1 .0) (opened (open-frame· .ensures) ((pre· .1 .0) .fit)) (opened· .given .1)), (pre· .1 .1)))
+    (rank-falls (args· .tree .now) _ _ (args· .nest) (omega (arith, pre· .0)), ((ready-opened (args· .at) false (pre· .1 .0) (opened (open-frame· .ensures) ((pre· .1 .0) .fit)) (opened· .given .1)), (pre· .1 .1)))
 
 on-assertions-enum-known-w : (t : ℕ) → on-assertions-lts.Need-enum-known-w (
   open-frame-reads.Asked,

@@ -3,38 +3,23 @@ use Prim.Native.Nat.{ℕ, _-_}
 use borrow.Author.Needs.{needs}
 use native.Mathlib.Omega.{arith}
 use mathlib.Core.List.{[]}
-use mathlib.Core.Path.{sym, _∙_}
-use Rattle.rules.specs.Outcome.{choose}
+use mathlib.Core.Path.{sym}
 use Rattle.rules.specs.Numbers.{code}
-use Rattle.rules.specs.Records.{size-of, numbers-of, widths, width, fields}
-use Rattle.rules.specs.Walk.{unnamed}
-use Rattle.tree.specs.Marks.{mark-of, find-mark, marks}
-use Rattle.runs.proofs.Expressions.{identity-size, identity-kind, constant-size, variable-size}
 use Rattle.runs.proofs.Holders.{not-held}
 use Rattle.state.specs.Seen.{limits-of}
 use Rattle.state.specs.Walks.{place-of, naming-of}
 use Rattle.joins.specs.Ready.{an-argument, a-part, an-assertion}
-use Rattle.joins.proofs.Asking.{stands}
-use Rattle.joins.proofs.Returns.{identity-returns, constant-returns, variable-returns, item-plain}
+use Rattle.joins.proofs.Returns.{item-plain}
 use Rattle.walkers.proofs.analyze.Reads as analyze
 use Rattle.walkers.proofs.on_held.Reads as on-held
 use Rattle.walkers.proofs.on_item.Reads as on-item
 use Rattle.walkers.proofs.+analyze+on_array+on_assertions+on_bind+on_binds+on_fields+on_function+on_head+on_heads+on_held+on_item+on_items+on_local+on_members+on_object+on_param+on_params+on_plain+on_value+on_values.Lts-on_item as on-item-lts
-use Rattle.atoms.proofs.analyze_identity.Reads as analyze-identity-reads
-use Rattle.atoms.proofs.analyze_variable.Reads as analyze-variable-reads
-use Rattle.atoms.proofs.copy_record.Reads as copy-record-reads
 use Rattle.packed.proofs.mark_at.Reads as mark-at-reads
 use Rattle.walkers.proofs.+analyze+on_array+on_assertions+on_bind+on_binds+on_fields+on_function+on_head+on_heads+on_held+on_item+on_items+on_local+on_members+on_object+on_param+on_params+on_plain+on_value+on_values.Proof.Measures.{analyze-below, on-held-below, on-item-at}
 
 on-item-mark-at-requires : (t : ℕ) → on-item-lts.Need-mark-at-requires (
   mark-at-reads.Asked,
   mark-at-reads.Learnt,
-  analyze-identity-reads.Asked,
-  analyze-identity-reads.Learnt,
-  copy-record-reads.Asked,
-  copy-record-reads.Learnt,
-  analyze-variable-reads.Asked,
-  analyze-variable-reads.Learnt,
   on-held-below t,
   on-held.Post,
   analyze-below t,
@@ -42,103 +27,9 @@ on-item-mark-at-requires : (t : ℕ) → on-item-lts.Need-mark-at-requires (
 ) (on-item-at t) on-item.Post
 on-item-mark-at-requires t c κs = search needs
 
-on-item-analyze-identity-requires : (t : ℕ) → on-item-lts.Need-analyze-identity-requires (
-  mark-at-reads.Asked,
-  mark-at-reads.Learnt,
-  analyze-identity-reads.Asked,
-  analyze-identity-reads.Learnt,
-  copy-record-reads.Asked,
-  copy-record-reads.Learnt,
-  analyze-variable-reads.Asked,
-  analyze-variable-reads.Learnt,
-  on-held-below t,
-  on-held.Post,
-  analyze-below t,
-  analyze.Post,
-) (on-item-at t) on-item.Post
-unfolding code
-on-item-analyze-identity-requires t c κs =
-    let args· = c .before .before .before .before .before .before .before .before .before .before .before .before .before .before .args in
-    let pre· = c .before .before .before .before .before .before .before .before .before .before .before .before .before .before .pre in
-    let mark-at· = c .before .before .before .before .before .before .mark-at in
-    let match· = c .before .before .before .before .before .match in
-    ((identity-size (args· .tree .now) (args· .nest) (args· .at) (not-held (args· .tree .now) (limits-of (args· .limits) [] []) (args· .nest) (args· .at) (pre· .1 .1) _ (sym (mark-at· .ensures .0) ∙ (match· .keys1)) (λ e. omega (arith, e)) (λ e. omega (arith, e)) (λ e. omega (arith, e))) (sym (mark-at· .ensures .0) ∙ (match· .keys1)), identity-kind (args· .tree .now) (args· .nest) (args· .at) (not-held (args· .tree .now) (limits-of (args· .limits) [] []) (args· .nest) (args· .at) (pre· .1 .1) _ (sym (mark-at· .ensures .0) ∙ (match· .keys1)) (λ e. omega (arith, e)) (λ e. omega (arith, e)) (λ e. omega (arith, e))) (sym (mark-at· .ensures .0) ∙ (match· .keys1)), stands (pre· .1 .0)), (((pre· .1 .0) .fit) .frames-kept, ((pre· .1 .0) .fit) .captures-long, omega (arith, ((pre· .1 .0) .fit) .locals-long, ((pre· .1 .0) .fit) .few-locals)))
-
-on-item-add-copy-record : (t : ℕ) → on-item-lts.Need-add-copy-record (
-  mark-at-reads.Asked,
-  mark-at-reads.Learnt,
-  analyze-identity-reads.Asked,
-  analyze-identity-reads.Learnt,
-  copy-record-reads.Asked,
-  copy-record-reads.Learnt,
-  analyze-variable-reads.Asked,
-  analyze-variable-reads.Learnt,
-  on-held-below t,
-  on-held.Post,
-  analyze-below t,
-  analyze.Post,
-) (on-item-at t) on-item.Post
-unfolding code
-on-item-add-copy-record t c =
-    let args· = c .before .before .before .before .before .before .before .before .before .before .args in
-    let pre· = c .before .before .before .before .before .before .before .before .before .before .pre in
-    let mark-at· = c .before .before .mark-at in
-    let match· = c .before .match in
-    omega (arith, constant-size (args· .tree .now) (args· .nest) (args· .at) (not-held (args· .tree .now) (limits-of (args· .limits) [] []) (args· .nest) (args· .at) (pre· .1 .1) _ (sym (mark-at· .ensures .0) ∙ (match· .keys2)) (λ e. omega (arith, e)) (λ e. omega (arith, e)) (λ e. omega (arith, e))) (sym (mark-at· .ensures .0) ∙ (match· .keys2)), (pre· .1 .0) .short)
-
-on-item-copy-record-requires : (t : ℕ) → on-item-lts.Need-copy-record-requires (
-  mark-at-reads.Asked,
-  mark-at-reads.Learnt,
-  analyze-identity-reads.Asked,
-  analyze-identity-reads.Learnt,
-  copy-record-reads.Asked,
-  copy-record-reads.Learnt,
-  analyze-variable-reads.Asked,
-  analyze-variable-reads.Learnt,
-  on-held-below t,
-  on-held.Post,
-  analyze-below t,
-  analyze.Post,
-) (on-item-at t) on-item.Post
-unfolding code mark-of find-mark marks choose size-of numbers-of widths width fields
-on-item-copy-record-requires t c κs =
-    let args· = c .before .before .before .before .before .before .before .before .before .before .args in
-    let pre· = c .before .before .before .before .before .before .before .before .before .before .pre in
-    let mark-at· = c .before .before .mark-at in
-    let match· = c .before .match in
-    (constant-size (args· .tree .now) (args· .nest) (args· .at) (not-held (args· .tree .now) (limits-of (args· .limits) [] []) (args· .nest) (args· .at) (pre· .1 .1) _ (sym (mark-at· .ensures .0) ∙ (match· .keys2)) (λ e. omega (arith, e)) (λ e. omega (arith, e)) (λ e. omega (arith, e))) (sym (mark-at· .ensures .0) ∙ (match· .keys2)), (sym (mark-at· .ensures .0) ∙ (match· .keys2)))
-
-on-item-analyze-variable-requires : (t : ℕ) → on-item-lts.Need-analyze-variable-requires (
-  mark-at-reads.Asked,
-  mark-at-reads.Learnt,
-  analyze-identity-reads.Asked,
-  analyze-identity-reads.Learnt,
-  copy-record-reads.Asked,
-  copy-record-reads.Learnt,
-  analyze-variable-reads.Asked,
-  analyze-variable-reads.Learnt,
-  on-held-below t,
-  on-held.Post,
-  analyze-below t,
-  analyze.Post,
-) (on-item-at t) on-item.Post
-unfolding code
-on-item-analyze-variable-requires t c κs =
-    let args· = c .before .before .before .before .before .before .before .before .before .before .before .before .before .before .args in
-    let pre· = c .before .before .before .before .before .before .before .before .before .before .before .before .before .before .pre in
-    let mark-at· = c .before .before .before .before .before .before .mark-at in
-    let match· = c .before .before .before .before .before .match in
-    ((variable-size (args· .tree .now) (args· .nest) (args· .at) (not-held (args· .tree .now) (limits-of (args· .limits) [] []) (args· .nest) (args· .at) (pre· .1 .1) _ (sym (mark-at· .ensures .0) ∙ (match· .keys3)) (λ e. omega (arith, e)) (λ e. omega (arith, e)) (λ e. omega (arith, e))) (sym (mark-at· .ensures .0) ∙ (match· .keys3)), omega (arith, ((pre· .1 .0) .fit) .locals-long, ((pre· .1 .0) .fit) .few-locals)), (((pre· .1 .0) .fit) .frames-kept, ((pre· .1 .0) .fit) .captures-long))
-
 on-item-on-held-requires : (t : ℕ) → on-item-lts.Need-on-held-requires (
   mark-at-reads.Asked,
   mark-at-reads.Learnt,
-  analyze-identity-reads.Asked,
-  analyze-identity-reads.Learnt,
-  copy-record-reads.Asked,
-  copy-record-reads.Learnt,
-  analyze-variable-reads.Asked,
-  analyze-variable-reads.Learnt,
   on-held-below t,
   on-held.Post,
   analyze-below t,
@@ -149,17 +40,11 @@ on-item-on-held-requires t c κs =
     let pre· = c .before .before .before .before .before .before .before .before .before .before .before .before .before .before .before .pre in
     let mark-at· = c .before .before .before .before .before .before .before .mark-at in
     let match· = c .before .before .before .before .before .before .match in
-    (omega (arith, pre· .0), ((pre· .1 .0), record { read = (pre· .1 .1); marked = sym (mark-at· .ensures .0); holder = an-argument (match· .keys4) }))
+    (omega (arith, pre· .0), ((pre· .1 .0), record { read = (pre· .1 .1); marked = sym (mark-at· .ensures .0); holder = an-argument (match· .keys1) }))
 
 on-item-on-held-requires-2 : (t : ℕ) → on-item-lts.Need-on-held-requires-2 (
   mark-at-reads.Asked,
   mark-at-reads.Learnt,
-  analyze-identity-reads.Asked,
-  analyze-identity-reads.Learnt,
-  copy-record-reads.Asked,
-  copy-record-reads.Learnt,
-  analyze-variable-reads.Asked,
-  analyze-variable-reads.Learnt,
   on-held-below t,
   on-held.Post,
   analyze-below t,
@@ -170,17 +55,11 @@ on-item-on-held-requires-2 t c κs =
     let pre· = c .before .before .before .before .before .before .before .before .before .before .before .before .before .before .before .pre in
     let mark-at· = c .before .before .before .before .before .before .before .mark-at in
     let match· = c .before .before .before .before .before .before .match in
-    (omega (arith, pre· .0), ((pre· .1 .0), record { read = (pre· .1 .1); marked = sym (mark-at· .ensures .0); holder = a-part (match· .keys5) }))
+    (omega (arith, pre· .0), ((pre· .1 .0), record { read = (pre· .1 .1); marked = sym (mark-at· .ensures .0); holder = a-part (match· .keys2) }))
 
 on-item-on-held-requires-3 : (t : ℕ) → on-item-lts.Need-on-held-requires-3 (
   mark-at-reads.Asked,
   mark-at-reads.Learnt,
-  analyze-identity-reads.Asked,
-  analyze-identity-reads.Learnt,
-  copy-record-reads.Asked,
-  copy-record-reads.Learnt,
-  analyze-variable-reads.Asked,
-  analyze-variable-reads.Learnt,
   on-held-below t,
   on-held.Post,
   analyze-below t,
@@ -191,17 +70,11 @@ on-item-on-held-requires-3 t c κs =
     let pre· = c .before .before .before .before .before .before .before .before .before .before .before .before .before .before .before .pre in
     let mark-at· = c .before .before .before .before .before .before .before .mark-at in
     let match· = c .before .before .before .before .before .before .match in
-    (omega (arith, pre· .0), ((pre· .1 .0), record { read = (pre· .1 .1); marked = sym (mark-at· .ensures .0); holder = an-assertion (match· .keys6) }))
+    (omega (arith, pre· .0), ((pre· .1 .0), record { read = (pre· .1 .1); marked = sym (mark-at· .ensures .0); holder = an-assertion (match· .keys3) }))
 
 on-item-analyze-requires : (t : ℕ) → on-item-lts.Need-analyze-requires (
   mark-at-reads.Asked,
   mark-at-reads.Learnt,
-  analyze-identity-reads.Asked,
-  analyze-identity-reads.Learnt,
-  copy-record-reads.Asked,
-  copy-record-reads.Learnt,
-  analyze-variable-reads.Asked,
-  analyze-variable-reads.Learnt,
   on-held-below t,
   on-held.Post,
   analyze-below t,
@@ -218,702 +91,289 @@ on-item-analyze-requires t c κs =
 on-item-same-length : (t : ℕ) → on-item-lts.Need-same-length (
   mark-at-reads.Asked,
   mark-at-reads.Learnt,
-  analyze-identity-reads.Asked,
-  analyze-identity-reads.Learnt,
-  copy-record-reads.Asked,
-  copy-record-reads.Learnt,
-  analyze-variable-reads.Asked,
-  analyze-variable-reads.Learnt,
   on-held-below t,
   on-held.Post,
   analyze-below t,
   analyze.Post,
 ) (on-item-at t) on-item.Post
-on-item-same-length t c = c .before .before .before .before .before .before .analyze-identity .kept .1 .0
+on-item-same-length t c = c .before .before .before .before .before .before .before .before .before .before .before .before .on-held .kept .1 .0
 
 on-item-same-length-2 : (t : ℕ) → on-item-lts.Need-same-length-2 (
   mark-at-reads.Asked,
   mark-at-reads.Learnt,
-  analyze-identity-reads.Asked,
-  analyze-identity-reads.Learnt,
-  copy-record-reads.Asked,
-  copy-record-reads.Learnt,
-  analyze-variable-reads.Asked,
-  analyze-variable-reads.Learnt,
   on-held-below t,
   on-held.Post,
   analyze-below t,
   analyze.Post,
 ) (on-item-at t) on-item.Post
-on-item-same-length-2 t c = c .before .before .before .before .before .before .analyze-identity .kept .1 .1 .0
+on-item-same-length-2 t c = c .before .before .before .before .before .before .before .before .before .before .before .before .on-held .kept .1 .1 .0
 
 on-item-same-length-3 : (t : ℕ) → on-item-lts.Need-same-length-3 (
   mark-at-reads.Asked,
   mark-at-reads.Learnt,
-  analyze-identity-reads.Asked,
-  analyze-identity-reads.Learnt,
-  copy-record-reads.Asked,
-  copy-record-reads.Learnt,
-  analyze-variable-reads.Asked,
-  analyze-variable-reads.Learnt,
   on-held-below t,
   on-held.Post,
   analyze-below t,
   analyze.Post,
 ) (on-item-at t) on-item.Post
-on-item-same-length-3 t c = search needs
+on-item-same-length-3 t c = c .before .before .before .before .before .before .before .before .before .before .before .before .on-held .kept .1 .1 .1 .0
 
 on-item-same-length-4 : (t : ℕ) → on-item-lts.Need-same-length-4 (
   mark-at-reads.Asked,
   mark-at-reads.Learnt,
-  analyze-identity-reads.Asked,
-  analyze-identity-reads.Learnt,
-  copy-record-reads.Asked,
-  copy-record-reads.Learnt,
-  analyze-variable-reads.Asked,
-  analyze-variable-reads.Learnt,
   on-held-below t,
   on-held.Post,
   analyze-below t,
   analyze.Post,
 ) (on-item-at t) on-item.Post
-on-item-same-length-4 t c = search needs
+on-item-same-length-4 t c = c .before .before .before .before .before .before .before .before .before .before .before .before .on-held .kept .1 .1 .1 .1 .0
 
 on-item-same-length-5 : (t : ℕ) → on-item-lts.Need-same-length-5 (
   mark-at-reads.Asked,
   mark-at-reads.Learnt,
-  analyze-identity-reads.Asked,
-  analyze-identity-reads.Learnt,
-  copy-record-reads.Asked,
-  copy-record-reads.Learnt,
-  analyze-variable-reads.Asked,
-  analyze-variable-reads.Learnt,
   on-held-below t,
   on-held.Post,
   analyze-below t,
   analyze.Post,
 ) (on-item-at t) on-item.Post
-on-item-same-length-5 t c = c .before .before .before .before .before .before .analyze-identity .kept .1 .1 .1 .1 .1 .0
-
-on-item-returns : (t : ℕ) → on-item-lts.Need-returns (
-  mark-at-reads.Asked,
-  mark-at-reads.Learnt,
-  analyze-identity-reads.Asked,
-  analyze-identity-reads.Learnt,
-  copy-record-reads.Asked,
-  copy-record-reads.Learnt,
-  analyze-variable-reads.Asked,
-  analyze-variable-reads.Learnt,
-  on-held-below t,
-  on-held.Post,
-  analyze-below t,
-  analyze.Post,
-) (on-item-at t) on-item.Post
-unfolding code
-on-item-returns t c =
-    let args· = c .before .before .before .before .before .before .before .before .before .before .before .before .before .before .before .before .before .before .before .before .before .args in
-    let pre· = c .before .before .before .before .before .before .before .before .before .before .before .before .before .before .before .before .before .before .before .before .before .pre in
-    let mark-at· = c .before .before .before .before .before .before .before .before .before .before .before .before .before .mark-at in
-    let match· = c .before .before .before .before .before .before .before .before .before .before .before .before .match in
-    let analyze-identity· = c .before .before .before .before .before .before .analyze-identity in
-    item-plain (args· .tree .now) (args· .nest) (args· .at) (pre· .1 .1) (sym (mark-at· .ensures .0) ∙ (match· .keys1)) (place-of (args· .here)) (λ e. omega (arith, e)) (λ e. omega (arith, e)) (λ e. omega (arith, e)) (identity-returns (args· .tree .now) (args· .nest) (args· .at) (not-held (args· .tree .now) (limits-of (args· .limits) [] []) (args· .nest) (args· .at) (pre· .1 .1) _ (sym (mark-at· .ensures .0) ∙ (match· .keys1)) (λ e. omega (arith, e)) (λ e. omega (arith, e)) (λ e. omega (arith, e))) unnamed (place-of (args· .here)) (sym (mark-at· .ensures .0) ∙ (match· .keys1)) (analyze-identity· .ensures .walks _ ((pre· .1 .0) .fit)))
+on-item-same-length-5 t c = c .before .before .before .before .before .before .before .before .before .before .before .before .on-held .kept .1 .1 .1 .1 .1 .0
 
 on-item-same-length-6 : (t : ℕ) → on-item-lts.Need-same-length-6 (
   mark-at-reads.Asked,
   mark-at-reads.Learnt,
-  analyze-identity-reads.Asked,
-  analyze-identity-reads.Learnt,
-  copy-record-reads.Asked,
-  copy-record-reads.Learnt,
-  analyze-variable-reads.Asked,
-  analyze-variable-reads.Learnt,
   on-held-below t,
   on-held.Post,
   analyze-below t,
   analyze.Post,
 ) (on-item-at t) on-item.Post
-on-item-same-length-6 t c = c .before .before .copy-record .kept .1 .0
+on-item-same-length-6 t c = c .before .before .before .before .before .before .before .before .before .before .before .before .on-held .kept .1 .1 .1 .1 .1 .1 .0
 
-on-item-returns-2 : (t : ℕ) → on-item-lts.Need-returns-2 (
+on-item-returns : (t : ℕ) → on-item-lts.Need-returns (
   mark-at-reads.Asked,
   mark-at-reads.Learnt,
-  analyze-identity-reads.Asked,
-  analyze-identity-reads.Learnt,
-  copy-record-reads.Asked,
-  copy-record-reads.Learnt,
-  analyze-variable-reads.Asked,
-  analyze-variable-reads.Learnt,
   on-held-below t,
   on-held.Post,
   analyze-below t,
   analyze.Post,
 ) (on-item-at t) on-item.Post
-unfolding code mark-of find-mark marks choose size-of numbers-of widths width fields
-on-item-returns-2 t c =
-    let args· = c .before .before .before .before .before .before .before .before .before .before .before .before .before .args in
-    let pre· = c .before .before .before .before .before .before .before .before .before .before .before .before .before .pre in
-    let mark-at· = c .before .before .before .before .before .mark-at in
-    let match· = c .before .before .before .before .match in
-    let copy-record· = c .before .before .copy-record in
-    item-plain (args· .tree .now) (args· .nest) (args· .at) (pre· .1 .1) (sym (mark-at· .ensures .0) ∙ (match· .keys2)) (place-of (args· .here)) (λ e. omega (arith, e)) (λ e. omega (arith, e)) (λ e. omega (arith, e)) (constant-returns (args· .tree .now) (args· .nest) (args· .at) (not-held (args· .tree .now) (limits-of (args· .limits) [] []) (args· .nest) (args· .at) (pre· .1 .1) _ (sym (mark-at· .ensures .0) ∙ (match· .keys2)) (λ e. omega (arith, e)) (λ e. omega (arith, e)) (λ e. omega (arith, e))) unnamed (place-of (args· .here)) (sym (mark-at· .ensures .0) ∙ (match· .keys2)) (copy-record· .ensures .walks (args· .limits) _ _ _ _ _ ((pre· .1 .0) .fit)))
+on-item-returns t c =
+    let on-held· = c .before .before .before .before .before .before .before .before .before .before .before .before .on-held in
+    on-held· .ensures
 
 on-item-same-length-7 : (t : ℕ) → on-item-lts.Need-same-length-7 (
   mark-at-reads.Asked,
   mark-at-reads.Learnt,
-  analyze-identity-reads.Asked,
-  analyze-identity-reads.Learnt,
-  copy-record-reads.Asked,
-  copy-record-reads.Learnt,
-  analyze-variable-reads.Asked,
-  analyze-variable-reads.Learnt,
   on-held-below t,
   on-held.Post,
   analyze-below t,
   analyze.Post,
 ) (on-item-at t) on-item.Post
-on-item-same-length-7 t c = c .before .before .before .before .before .before .before .before .analyze-variable .kept .1 .0
+on-item-same-length-7 t c = c .before .before .before .before .before .before .before .before .before .before .before .before .on-held2 .kept .1 .0
 
 on-item-same-length-8 : (t : ℕ) → on-item-lts.Need-same-length-8 (
   mark-at-reads.Asked,
   mark-at-reads.Learnt,
-  analyze-identity-reads.Asked,
-  analyze-identity-reads.Learnt,
-  copy-record-reads.Asked,
-  copy-record-reads.Learnt,
-  analyze-variable-reads.Asked,
-  analyze-variable-reads.Learnt,
   on-held-below t,
   on-held.Post,
   analyze-below t,
   analyze.Post,
 ) (on-item-at t) on-item.Post
-on-item-same-length-8 t c = c .before .before .before .before .before .before .before .before .analyze-variable .kept .1 .1 .0
+on-item-same-length-8 t c = c .before .before .before .before .before .before .before .before .before .before .before .before .on-held2 .kept .1 .1 .0
 
 on-item-same-length-9 : (t : ℕ) → on-item-lts.Need-same-length-9 (
   mark-at-reads.Asked,
   mark-at-reads.Learnt,
-  analyze-identity-reads.Asked,
-  analyze-identity-reads.Learnt,
-  copy-record-reads.Asked,
-  copy-record-reads.Learnt,
-  analyze-variable-reads.Asked,
-  analyze-variable-reads.Learnt,
   on-held-below t,
   on-held.Post,
   analyze-below t,
   analyze.Post,
 ) (on-item-at t) on-item.Post
-on-item-same-length-9 t c = c .before .before .before .before .before .before .before .before .analyze-variable .kept .1 .1 .1 .0
+on-item-same-length-9 t c = c .before .before .before .before .before .before .before .before .before .before .before .before .on-held2 .kept .1 .1 .1 .0
 
 on-item-same-length-10 : (t : ℕ) → on-item-lts.Need-same-length-10 (
   mark-at-reads.Asked,
   mark-at-reads.Learnt,
-  analyze-identity-reads.Asked,
-  analyze-identity-reads.Learnt,
-  copy-record-reads.Asked,
-  copy-record-reads.Learnt,
-  analyze-variable-reads.Asked,
-  analyze-variable-reads.Learnt,
   on-held-below t,
   on-held.Post,
   analyze-below t,
   analyze.Post,
 ) (on-item-at t) on-item.Post
-on-item-same-length-10 t c = search needs
+on-item-same-length-10 t c = c .before .before .before .before .before .before .before .before .before .before .before .before .on-held2 .kept .1 .1 .1 .1 .0
 
 on-item-same-length-11 : (t : ℕ) → on-item-lts.Need-same-length-11 (
   mark-at-reads.Asked,
   mark-at-reads.Learnt,
-  analyze-identity-reads.Asked,
-  analyze-identity-reads.Learnt,
-  copy-record-reads.Asked,
-  copy-record-reads.Learnt,
-  analyze-variable-reads.Asked,
-  analyze-variable-reads.Learnt,
   on-held-below t,
   on-held.Post,
   analyze-below t,
   analyze.Post,
 ) (on-item-at t) on-item.Post
-on-item-same-length-11 t c = c .before .before .before .before .before .before .before .before .analyze-variable .kept .1 .1 .1 .1 .1 .0
-
-on-item-returns-3 : (t : ℕ) → on-item-lts.Need-returns-3 (
-  mark-at-reads.Asked,
-  mark-at-reads.Learnt,
-  analyze-identity-reads.Asked,
-  analyze-identity-reads.Learnt,
-  copy-record-reads.Asked,
-  copy-record-reads.Learnt,
-  analyze-variable-reads.Asked,
-  analyze-variable-reads.Learnt,
-  on-held-below t,
-  on-held.Post,
-  analyze-below t,
-  analyze.Post,
-) (on-item-at t) on-item.Post
-unfolding code
-on-item-returns-3 t c =
-    let args· = c .before .before .before .before .before .before .before .before .before .before .before .before .before .before .before .before .before .before .before .before .before .before .before .args in
-    let pre· = c .before .before .before .before .before .before .before .before .before .before .before .before .before .before .before .before .before .before .before .before .before .before .before .pre in
-    let mark-at· = c .before .before .before .before .before .before .before .before .before .before .before .before .before .before .before .mark-at in
-    let match· = c .before .before .before .before .before .before .before .before .before .before .before .before .before .before .match in
-    let analyze-variable· = c .before .before .before .before .before .before .before .before .analyze-variable in
-    item-plain (args· .tree .now) (args· .nest) (args· .at) (pre· .1 .1) (sym (mark-at· .ensures .0) ∙ (match· .keys3)) (place-of (args· .here)) (λ e. omega (arith, e)) (λ e. omega (arith, e)) (λ e. omega (arith, e)) (variable-returns (args· .tree .now) (args· .nest) (args· .at) (not-held (args· .tree .now) (limits-of (args· .limits) [] []) (args· .nest) (args· .at) (pre· .1 .1) _ (sym (mark-at· .ensures .0) ∙ (match· .keys3)) (λ e. omega (arith, e)) (λ e. omega (arith, e)) (λ e. omega (arith, e))) unnamed (place-of (args· .here)) (sym (mark-at· .ensures .0) ∙ (match· .keys3)) (analyze-variable· .ensures .walks _ ((pre· .1 .0) .fit)))
+on-item-same-length-11 t c = c .before .before .before .before .before .before .before .before .before .before .before .before .on-held2 .kept .1 .1 .1 .1 .1 .0
 
 on-item-same-length-12 : (t : ℕ) → on-item-lts.Need-same-length-12 (
   mark-at-reads.Asked,
   mark-at-reads.Learnt,
-  analyze-identity-reads.Asked,
-  analyze-identity-reads.Learnt,
-  copy-record-reads.Asked,
-  copy-record-reads.Learnt,
-  analyze-variable-reads.Asked,
-  analyze-variable-reads.Learnt,
   on-held-below t,
   on-held.Post,
   analyze-below t,
   analyze.Post,
 ) (on-item-at t) on-item.Post
-on-item-same-length-12 t c = c .before .before .before .before .before .before .before .before .before .before .before .before .on-held .kept .1 .0
+on-item-same-length-12 t c = c .before .before .before .before .before .before .before .before .before .before .before .before .on-held2 .kept .1 .1 .1 .1 .1 .1 .0
+
+on-item-returns-2 : (t : ℕ) → on-item-lts.Need-returns-2 (
+  mark-at-reads.Asked,
+  mark-at-reads.Learnt,
+  on-held-below t,
+  on-held.Post,
+  analyze-below t,
+  analyze.Post,
+) (on-item-at t) on-item.Post
+on-item-returns-2 t c =
+    let on-held2· = c .before .before .before .before .before .before .before .before .before .before .before .before .on-held2 in
+    on-held2· .ensures
 
 on-item-same-length-13 : (t : ℕ) → on-item-lts.Need-same-length-13 (
   mark-at-reads.Asked,
   mark-at-reads.Learnt,
-  analyze-identity-reads.Asked,
-  analyze-identity-reads.Learnt,
-  copy-record-reads.Asked,
-  copy-record-reads.Learnt,
-  analyze-variable-reads.Asked,
-  analyze-variable-reads.Learnt,
   on-held-below t,
   on-held.Post,
   analyze-below t,
   analyze.Post,
 ) (on-item-at t) on-item.Post
-on-item-same-length-13 t c = c .before .before .before .before .before .before .before .before .before .before .before .before .on-held .kept .1 .1 .0
+on-item-same-length-13 t c = c .before .before .before .before .before .before .before .before .before .before .before .before .on-held3 .kept .1 .0
 
 on-item-same-length-14 : (t : ℕ) → on-item-lts.Need-same-length-14 (
   mark-at-reads.Asked,
   mark-at-reads.Learnt,
-  analyze-identity-reads.Asked,
-  analyze-identity-reads.Learnt,
-  copy-record-reads.Asked,
-  copy-record-reads.Learnt,
-  analyze-variable-reads.Asked,
-  analyze-variable-reads.Learnt,
   on-held-below t,
   on-held.Post,
   analyze-below t,
   analyze.Post,
 ) (on-item-at t) on-item.Post
-on-item-same-length-14 t c = c .before .before .before .before .before .before .before .before .before .before .before .before .on-held .kept .1 .1 .1 .0
+on-item-same-length-14 t c = c .before .before .before .before .before .before .before .before .before .before .before .before .on-held3 .kept .1 .1 .0
 
 on-item-same-length-15 : (t : ℕ) → on-item-lts.Need-same-length-15 (
   mark-at-reads.Asked,
   mark-at-reads.Learnt,
-  analyze-identity-reads.Asked,
-  analyze-identity-reads.Learnt,
-  copy-record-reads.Asked,
-  copy-record-reads.Learnt,
-  analyze-variable-reads.Asked,
-  analyze-variable-reads.Learnt,
   on-held-below t,
   on-held.Post,
   analyze-below t,
   analyze.Post,
 ) (on-item-at t) on-item.Post
-on-item-same-length-15 t c = c .before .before .before .before .before .before .before .before .before .before .before .before .on-held .kept .1 .1 .1 .1 .0
+on-item-same-length-15 t c = c .before .before .before .before .before .before .before .before .before .before .before .before .on-held3 .kept .1 .1 .1 .0
 
 on-item-same-length-16 : (t : ℕ) → on-item-lts.Need-same-length-16 (
   mark-at-reads.Asked,
   mark-at-reads.Learnt,
-  analyze-identity-reads.Asked,
-  analyze-identity-reads.Learnt,
-  copy-record-reads.Asked,
-  copy-record-reads.Learnt,
-  analyze-variable-reads.Asked,
-  analyze-variable-reads.Learnt,
   on-held-below t,
   on-held.Post,
   analyze-below t,
   analyze.Post,
 ) (on-item-at t) on-item.Post
-on-item-same-length-16 t c = c .before .before .before .before .before .before .before .before .before .before .before .before .on-held .kept .1 .1 .1 .1 .1 .0
+on-item-same-length-16 t c = c .before .before .before .before .before .before .before .before .before .before .before .before .on-held3 .kept .1 .1 .1 .1 .0
 
 on-item-same-length-17 : (t : ℕ) → on-item-lts.Need-same-length-17 (
   mark-at-reads.Asked,
   mark-at-reads.Learnt,
-  analyze-identity-reads.Asked,
-  analyze-identity-reads.Learnt,
-  copy-record-reads.Asked,
-  copy-record-reads.Learnt,
-  analyze-variable-reads.Asked,
-  analyze-variable-reads.Learnt,
   on-held-below t,
   on-held.Post,
   analyze-below t,
   analyze.Post,
 ) (on-item-at t) on-item.Post
-on-item-same-length-17 t c = c .before .before .before .before .before .before .before .before .before .before .before .before .on-held .kept .1 .1 .1 .1 .1 .1 .0
-
-on-item-returns-4 : (t : ℕ) → on-item-lts.Need-returns-4 (
-  mark-at-reads.Asked,
-  mark-at-reads.Learnt,
-  analyze-identity-reads.Asked,
-  analyze-identity-reads.Learnt,
-  copy-record-reads.Asked,
-  copy-record-reads.Learnt,
-  analyze-variable-reads.Asked,
-  analyze-variable-reads.Learnt,
-  on-held-below t,
-  on-held.Post,
-  analyze-below t,
-  analyze.Post,
-) (on-item-at t) on-item.Post
-on-item-returns-4 t c =
-    let on-held· = c .before .before .before .before .before .before .before .before .before .before .before .before .on-held in
-    on-held· .ensures
+on-item-same-length-17 t c = c .before .before .before .before .before .before .before .before .before .before .before .before .on-held3 .kept .1 .1 .1 .1 .1 .0
 
 on-item-same-length-18 : (t : ℕ) → on-item-lts.Need-same-length-18 (
   mark-at-reads.Asked,
   mark-at-reads.Learnt,
-  analyze-identity-reads.Asked,
-  analyze-identity-reads.Learnt,
-  copy-record-reads.Asked,
-  copy-record-reads.Learnt,
-  analyze-variable-reads.Asked,
-  analyze-variable-reads.Learnt,
   on-held-below t,
   on-held.Post,
   analyze-below t,
   analyze.Post,
 ) (on-item-at t) on-item.Post
-on-item-same-length-18 t c = c .before .before .before .before .before .before .before .before .before .before .before .before .on-held2 .kept .1 .0
+on-item-same-length-18 t c = c .before .before .before .before .before .before .before .before .before .before .before .before .on-held3 .kept .1 .1 .1 .1 .1 .1 .0
+
+on-item-returns-3 : (t : ℕ) → on-item-lts.Need-returns-3 (
+  mark-at-reads.Asked,
+  mark-at-reads.Learnt,
+  on-held-below t,
+  on-held.Post,
+  analyze-below t,
+  analyze.Post,
+) (on-item-at t) on-item.Post
+on-item-returns-3 t c =
+    let on-held3· = c .before .before .before .before .before .before .before .before .before .before .before .before .on-held3 in
+    on-held3· .ensures
 
 on-item-same-length-19 : (t : ℕ) → on-item-lts.Need-same-length-19 (
   mark-at-reads.Asked,
   mark-at-reads.Learnt,
-  analyze-identity-reads.Asked,
-  analyze-identity-reads.Learnt,
-  copy-record-reads.Asked,
-  copy-record-reads.Learnt,
-  analyze-variable-reads.Asked,
-  analyze-variable-reads.Learnt,
   on-held-below t,
   on-held.Post,
   analyze-below t,
   analyze.Post,
 ) (on-item-at t) on-item.Post
-on-item-same-length-19 t c = c .before .before .before .before .before .before .before .before .before .before .before .before .on-held2 .kept .1 .1 .0
+on-item-same-length-19 t c = c .before .before .before .before .before .before .before .before .before .before .before .before .analyze .kept .1 .0
 
 on-item-same-length-20 : (t : ℕ) → on-item-lts.Need-same-length-20 (
   mark-at-reads.Asked,
   mark-at-reads.Learnt,
-  analyze-identity-reads.Asked,
-  analyze-identity-reads.Learnt,
-  copy-record-reads.Asked,
-  copy-record-reads.Learnt,
-  analyze-variable-reads.Asked,
-  analyze-variable-reads.Learnt,
   on-held-below t,
   on-held.Post,
   analyze-below t,
   analyze.Post,
 ) (on-item-at t) on-item.Post
-on-item-same-length-20 t c = c .before .before .before .before .before .before .before .before .before .before .before .before .on-held2 .kept .1 .1 .1 .0
+on-item-same-length-20 t c = c .before .before .before .before .before .before .before .before .before .before .before .before .analyze .kept .1 .1 .0
 
 on-item-same-length-21 : (t : ℕ) → on-item-lts.Need-same-length-21 (
   mark-at-reads.Asked,
   mark-at-reads.Learnt,
-  analyze-identity-reads.Asked,
-  analyze-identity-reads.Learnt,
-  copy-record-reads.Asked,
-  copy-record-reads.Learnt,
-  analyze-variable-reads.Asked,
-  analyze-variable-reads.Learnt,
   on-held-below t,
   on-held.Post,
   analyze-below t,
   analyze.Post,
 ) (on-item-at t) on-item.Post
-on-item-same-length-21 t c = c .before .before .before .before .before .before .before .before .before .before .before .before .on-held2 .kept .1 .1 .1 .1 .0
+on-item-same-length-21 t c = c .before .before .before .before .before .before .before .before .before .before .before .before .analyze .kept .1 .1 .1 .0
 
 on-item-same-length-22 : (t : ℕ) → on-item-lts.Need-same-length-22 (
   mark-at-reads.Asked,
   mark-at-reads.Learnt,
-  analyze-identity-reads.Asked,
-  analyze-identity-reads.Learnt,
-  copy-record-reads.Asked,
-  copy-record-reads.Learnt,
-  analyze-variable-reads.Asked,
-  analyze-variable-reads.Learnt,
   on-held-below t,
   on-held.Post,
   analyze-below t,
   analyze.Post,
 ) (on-item-at t) on-item.Post
-on-item-same-length-22 t c = c .before .before .before .before .before .before .before .before .before .before .before .before .on-held2 .kept .1 .1 .1 .1 .1 .0
+on-item-same-length-22 t c = c .before .before .before .before .before .before .before .before .before .before .before .before .analyze .kept .1 .1 .1 .1 .0
 
 on-item-same-length-23 : (t : ℕ) → on-item-lts.Need-same-length-23 (
   mark-at-reads.Asked,
   mark-at-reads.Learnt,
-  analyze-identity-reads.Asked,
-  analyze-identity-reads.Learnt,
-  copy-record-reads.Asked,
-  copy-record-reads.Learnt,
-  analyze-variable-reads.Asked,
-  analyze-variable-reads.Learnt,
   on-held-below t,
   on-held.Post,
   analyze-below t,
   analyze.Post,
 ) (on-item-at t) on-item.Post
-on-item-same-length-23 t c = c .before .before .before .before .before .before .before .before .before .before .before .before .on-held2 .kept .1 .1 .1 .1 .1 .1 .0
-
-on-item-returns-5 : (t : ℕ) → on-item-lts.Need-returns-5 (
-  mark-at-reads.Asked,
-  mark-at-reads.Learnt,
-  analyze-identity-reads.Asked,
-  analyze-identity-reads.Learnt,
-  copy-record-reads.Asked,
-  copy-record-reads.Learnt,
-  analyze-variable-reads.Asked,
-  analyze-variable-reads.Learnt,
-  on-held-below t,
-  on-held.Post,
-  analyze-below t,
-  analyze.Post,
-) (on-item-at t) on-item.Post
-on-item-returns-5 t c =
-    let on-held2· = c .before .before .before .before .before .before .before .before .before .before .before .before .on-held2 in
-    on-held2· .ensures
+on-item-same-length-23 t c = c .before .before .before .before .before .before .before .before .before .before .before .before .analyze .kept .1 .1 .1 .1 .1 .0
 
 on-item-same-length-24 : (t : ℕ) → on-item-lts.Need-same-length-24 (
   mark-at-reads.Asked,
   mark-at-reads.Learnt,
-  analyze-identity-reads.Asked,
-  analyze-identity-reads.Learnt,
-  copy-record-reads.Asked,
-  copy-record-reads.Learnt,
-  analyze-variable-reads.Asked,
-  analyze-variable-reads.Learnt,
   on-held-below t,
   on-held.Post,
   analyze-below t,
   analyze.Post,
 ) (on-item-at t) on-item.Post
-on-item-same-length-24 t c = c .before .before .before .before .before .before .before .before .before .before .before .before .on-held3 .kept .1 .0
+on-item-same-length-24 t c = c .before .before .before .before .before .before .before .before .before .before .before .before .analyze .kept .1 .1 .1 .1 .1 .1 .0
 
-on-item-same-length-25 : (t : ℕ) → on-item-lts.Need-same-length-25 (
+on-item-returns-4 : (t : ℕ) → on-item-lts.Need-returns-4 (
   mark-at-reads.Asked,
   mark-at-reads.Learnt,
-  analyze-identity-reads.Asked,
-  analyze-identity-reads.Learnt,
-  copy-record-reads.Asked,
-  copy-record-reads.Learnt,
-  analyze-variable-reads.Asked,
-  analyze-variable-reads.Learnt,
-  on-held-below t,
-  on-held.Post,
-  analyze-below t,
-  analyze.Post,
-) (on-item-at t) on-item.Post
-on-item-same-length-25 t c = c .before .before .before .before .before .before .before .before .before .before .before .before .on-held3 .kept .1 .1 .0
-
-on-item-same-length-26 : (t : ℕ) → on-item-lts.Need-same-length-26 (
-  mark-at-reads.Asked,
-  mark-at-reads.Learnt,
-  analyze-identity-reads.Asked,
-  analyze-identity-reads.Learnt,
-  copy-record-reads.Asked,
-  copy-record-reads.Learnt,
-  analyze-variable-reads.Asked,
-  analyze-variable-reads.Learnt,
-  on-held-below t,
-  on-held.Post,
-  analyze-below t,
-  analyze.Post,
-) (on-item-at t) on-item.Post
-on-item-same-length-26 t c = c .before .before .before .before .before .before .before .before .before .before .before .before .on-held3 .kept .1 .1 .1 .0
-
-on-item-same-length-27 : (t : ℕ) → on-item-lts.Need-same-length-27 (
-  mark-at-reads.Asked,
-  mark-at-reads.Learnt,
-  analyze-identity-reads.Asked,
-  analyze-identity-reads.Learnt,
-  copy-record-reads.Asked,
-  copy-record-reads.Learnt,
-  analyze-variable-reads.Asked,
-  analyze-variable-reads.Learnt,
-  on-held-below t,
-  on-held.Post,
-  analyze-below t,
-  analyze.Post,
-) (on-item-at t) on-item.Post
-on-item-same-length-27 t c = c .before .before .before .before .before .before .before .before .before .before .before .before .on-held3 .kept .1 .1 .1 .1 .0
-
-on-item-same-length-28 : (t : ℕ) → on-item-lts.Need-same-length-28 (
-  mark-at-reads.Asked,
-  mark-at-reads.Learnt,
-  analyze-identity-reads.Asked,
-  analyze-identity-reads.Learnt,
-  copy-record-reads.Asked,
-  copy-record-reads.Learnt,
-  analyze-variable-reads.Asked,
-  analyze-variable-reads.Learnt,
-  on-held-below t,
-  on-held.Post,
-  analyze-below t,
-  analyze.Post,
-) (on-item-at t) on-item.Post
-on-item-same-length-28 t c = c .before .before .before .before .before .before .before .before .before .before .before .before .on-held3 .kept .1 .1 .1 .1 .1 .0
-
-on-item-same-length-29 : (t : ℕ) → on-item-lts.Need-same-length-29 (
-  mark-at-reads.Asked,
-  mark-at-reads.Learnt,
-  analyze-identity-reads.Asked,
-  analyze-identity-reads.Learnt,
-  copy-record-reads.Asked,
-  copy-record-reads.Learnt,
-  analyze-variable-reads.Asked,
-  analyze-variable-reads.Learnt,
-  on-held-below t,
-  on-held.Post,
-  analyze-below t,
-  analyze.Post,
-) (on-item-at t) on-item.Post
-on-item-same-length-29 t c = c .before .before .before .before .before .before .before .before .before .before .before .before .on-held3 .kept .1 .1 .1 .1 .1 .1 .0
-
-on-item-returns-6 : (t : ℕ) → on-item-lts.Need-returns-6 (
-  mark-at-reads.Asked,
-  mark-at-reads.Learnt,
-  analyze-identity-reads.Asked,
-  analyze-identity-reads.Learnt,
-  copy-record-reads.Asked,
-  copy-record-reads.Learnt,
-  analyze-variable-reads.Asked,
-  analyze-variable-reads.Learnt,
-  on-held-below t,
-  on-held.Post,
-  analyze-below t,
-  analyze.Post,
-) (on-item-at t) on-item.Post
-on-item-returns-6 t c =
-    let on-held3· = c .before .before .before .before .before .before .before .before .before .before .before .before .on-held3 in
-    on-held3· .ensures
-
-on-item-same-length-30 : (t : ℕ) → on-item-lts.Need-same-length-30 (
-  mark-at-reads.Asked,
-  mark-at-reads.Learnt,
-  analyze-identity-reads.Asked,
-  analyze-identity-reads.Learnt,
-  copy-record-reads.Asked,
-  copy-record-reads.Learnt,
-  analyze-variable-reads.Asked,
-  analyze-variable-reads.Learnt,
-  on-held-below t,
-  on-held.Post,
-  analyze-below t,
-  analyze.Post,
-) (on-item-at t) on-item.Post
-on-item-same-length-30 t c = c .before .before .before .before .before .before .before .before .before .before .before .before .analyze .kept .1 .0
-
-on-item-same-length-31 : (t : ℕ) → on-item-lts.Need-same-length-31 (
-  mark-at-reads.Asked,
-  mark-at-reads.Learnt,
-  analyze-identity-reads.Asked,
-  analyze-identity-reads.Learnt,
-  copy-record-reads.Asked,
-  copy-record-reads.Learnt,
-  analyze-variable-reads.Asked,
-  analyze-variable-reads.Learnt,
-  on-held-below t,
-  on-held.Post,
-  analyze-below t,
-  analyze.Post,
-) (on-item-at t) on-item.Post
-on-item-same-length-31 t c = c .before .before .before .before .before .before .before .before .before .before .before .before .analyze .kept .1 .1 .0
-
-on-item-same-length-32 : (t : ℕ) → on-item-lts.Need-same-length-32 (
-  mark-at-reads.Asked,
-  mark-at-reads.Learnt,
-  analyze-identity-reads.Asked,
-  analyze-identity-reads.Learnt,
-  copy-record-reads.Asked,
-  copy-record-reads.Learnt,
-  analyze-variable-reads.Asked,
-  analyze-variable-reads.Learnt,
-  on-held-below t,
-  on-held.Post,
-  analyze-below t,
-  analyze.Post,
-) (on-item-at t) on-item.Post
-on-item-same-length-32 t c = c .before .before .before .before .before .before .before .before .before .before .before .before .analyze .kept .1 .1 .1 .0
-
-on-item-same-length-33 : (t : ℕ) → on-item-lts.Need-same-length-33 (
-  mark-at-reads.Asked,
-  mark-at-reads.Learnt,
-  analyze-identity-reads.Asked,
-  analyze-identity-reads.Learnt,
-  copy-record-reads.Asked,
-  copy-record-reads.Learnt,
-  analyze-variable-reads.Asked,
-  analyze-variable-reads.Learnt,
-  on-held-below t,
-  on-held.Post,
-  analyze-below t,
-  analyze.Post,
-) (on-item-at t) on-item.Post
-on-item-same-length-33 t c = c .before .before .before .before .before .before .before .before .before .before .before .before .analyze .kept .1 .1 .1 .1 .0
-
-on-item-same-length-34 : (t : ℕ) → on-item-lts.Need-same-length-34 (
-  mark-at-reads.Asked,
-  mark-at-reads.Learnt,
-  analyze-identity-reads.Asked,
-  analyze-identity-reads.Learnt,
-  copy-record-reads.Asked,
-  copy-record-reads.Learnt,
-  analyze-variable-reads.Asked,
-  analyze-variable-reads.Learnt,
-  on-held-below t,
-  on-held.Post,
-  analyze-below t,
-  analyze.Post,
-) (on-item-at t) on-item.Post
-on-item-same-length-34 t c = c .before .before .before .before .before .before .before .before .before .before .before .before .analyze .kept .1 .1 .1 .1 .1 .0
-
-on-item-same-length-35 : (t : ℕ) → on-item-lts.Need-same-length-35 (
-  mark-at-reads.Asked,
-  mark-at-reads.Learnt,
-  analyze-identity-reads.Asked,
-  analyze-identity-reads.Learnt,
-  copy-record-reads.Asked,
-  copy-record-reads.Learnt,
-  analyze-variable-reads.Asked,
-  analyze-variable-reads.Learnt,
-  on-held-below t,
-  on-held.Post,
-  analyze-below t,
-  analyze.Post,
-) (on-item-at t) on-item.Post
-on-item-same-length-35 t c = c .before .before .before .before .before .before .before .before .before .before .before .before .analyze .kept .1 .1 .1 .1 .1 .1 .0
-
-on-item-returns-7 : (t : ℕ) → on-item-lts.Need-returns-7 (
-  mark-at-reads.Asked,
-  mark-at-reads.Learnt,
-  analyze-identity-reads.Asked,
-  analyze-identity-reads.Learnt,
-  copy-record-reads.Asked,
-  copy-record-reads.Learnt,
-  analyze-variable-reads.Asked,
-  analyze-variable-reads.Learnt,
   on-held-below t,
   on-held.Post,
   analyze-below t,
   analyze.Post,
 ) (on-item-at t) on-item.Post
 unfolding code naming-of
-on-item-returns-7 t c =
+on-item-returns-4 t c =
     let args· = c .before .before .before .before .before .before .before .before .before .before .before .before .before .before .before .before .before .before .before .before .before .before .before .before .before .before .before .before .args in
     let pre· = c .before .before .before .before .before .before .before .before .before .before .before .before .before .before .before .before .before .before .before .before .before .before .before .before .before .before .before .before .pre in
     let mark-at· = c .before .before .before .before .before .before .before .before .before .before .before .before .before .before .before .before .before .before .before .before .mark-at in
@@ -924,12 +384,6 @@ on-item-returns-7 t c =
 pub on-item-met : {M : Type 1} (t : ℕ) → on-item-lts.Closed (
   mark-at-reads.Asked,
   mark-at-reads.Learnt,
-  analyze-identity-reads.Asked,
-  analyze-identity-reads.Learnt,
-  copy-record-reads.Asked,
-  copy-record-reads.Learnt,
-  analyze-variable-reads.Asked,
-  analyze-variable-reads.Learnt,
   on-held-below t,
   on-held.Post,
   analyze-below t,
@@ -938,12 +392,6 @@ pub on-item-met : {M : Type 1} (t : ℕ) → on-item-lts.Closed (
 on-item-met t = on-item-lts.spec (
   mark-at-reads.Asked,
   mark-at-reads.Learnt,
-  analyze-identity-reads.Asked,
-  analyze-identity-reads.Learnt,
-  copy-record-reads.Asked,
-  copy-record-reads.Learnt,
-  analyze-variable-reads.Asked,
-  analyze-variable-reads.Learnt,
   on-held-below t,
   on-held.Post,
   analyze-below t,
@@ -952,10 +400,6 @@ on-item-met t = on-item-lts.spec (
     (on-item-at t)
     on-item.Post
     (on-item-mark-at-requires t)
-    (on-item-analyze-identity-requires t)
-    (on-item-add-copy-record t)
-    (on-item-copy-record-requires t)
-    (on-item-analyze-variable-requires t)
     (on-item-on-held-requires t)
     (on-item-on-held-requires-2 t)
     (on-item-on-held-requires-3 t)
@@ -965,40 +409,26 @@ on-item-met t = on-item-lts.spec (
     (on-item-same-length-3 t)
     (on-item-same-length-4 t)
     (on-item-same-length-5 t)
-    (on-item-returns t)
     (on-item-same-length-6 t)
-    (on-item-returns-2 t)
+    (on-item-returns t)
     (on-item-same-length-7 t)
     (on-item-same-length-8 t)
     (on-item-same-length-9 t)
     (on-item-same-length-10 t)
     (on-item-same-length-11 t)
-    (on-item-returns-3 t)
     (on-item-same-length-12 t)
+    (on-item-returns-2 t)
     (on-item-same-length-13 t)
     (on-item-same-length-14 t)
     (on-item-same-length-15 t)
     (on-item-same-length-16 t)
     (on-item-same-length-17 t)
-    (on-item-returns-4 t)
     (on-item-same-length-18 t)
+    (on-item-returns-3 t)
     (on-item-same-length-19 t)
     (on-item-same-length-20 t)
     (on-item-same-length-21 t)
     (on-item-same-length-22 t)
     (on-item-same-length-23 t)
-    (on-item-returns-5 t)
     (on-item-same-length-24 t)
-    (on-item-same-length-25 t)
-    (on-item-same-length-26 t)
-    (on-item-same-length-27 t)
-    (on-item-same-length-28 t)
-    (on-item-same-length-29 t)
-    (on-item-returns-6 t)
-    (on-item-same-length-30 t)
-    (on-item-same-length-31 t)
-    (on-item-same-length-32 t)
-    (on-item-same-length-33 t)
-    (on-item-same-length-34 t)
-    (on-item-same-length-35 t)
-    (on-item-returns-7 t)
+    (on-item-returns-4 t)

@@ -11,13 +11,14 @@ use Rattle.state.specs.Walks.{place-of}
 use Rattle.joins.proofs.Joining.{went-fit}
 use Rattle.joins.proofs.Readiness.{ready-on}
 use Rattle.joins.proofs.Stages.{children-here, plain-children, plain-fits, plain-marked}
+use Rattle.leaves.proofs.Laws.{rank-falls}
 use Rattle.joins.proofs.Returns.{plain-stopped, plain-ended}
 use Rattle.walkers.proofs.on_items.Reads as on-items
 use Rattle.walkers.proofs.on_plain.Reads as on-plain
 use Rattle.walkers.proofs.+analyze+on_array+on_assertions+on_bind+on_binds+on_fields+on_function+on_head+on_heads+on_held+on_item+on_items+on_local+on_members+on_object+on_param+on_params+on_plain+on_value+on_values.Lts-on_plain as on-plain-lts
 use Rattle.atoms.proofs.copy_record.Reads as copy-record-reads
-use Rattle.tree.proofs.children.Reads as children-reads
-use Rattle.tree.proofs.size_of.Reads as size-of-reads
+use Rattle.marks.proofs.children.Reads as children-reads
+use Rattle.marks.proofs.size_of.Reads as size-of-reads
 use Rattle.walkers.proofs.+analyze+on_array+on_assertions+on_bind+on_binds+on_fields+on_function+on_head+on_heads+on_held+on_item+on_items+on_local+on_members+on_object+on_param+on_params+on_plain+on_value+on_values.Proof.Measures.{on-items-below, on-plain-at}
 
 on-plain-sub-children : (t : ℕ) → on-plain-lts.Need-sub-children (
@@ -127,11 +128,11 @@ on-plain-on-items-requires : (t : ℕ) → on-plain-lts.Need-on-items-requires (
   copy-record-reads.Learnt,
 ) (on-plain-at t) on-plain.Post
 on-plain-on-items-requires t c κs =
-    let pre· = c .before .before .before .before .before .before .before .before .before .before .before .before .before .before .before .before .pre in
     let args· = c .before .before .before .before .before .before .before .before .before .before .before .before .before .before .before .before .args in
+    let pre· = c .before .before .before .before .before .before .before .before .before .before .before .before .before .before .before .before .pre in
     let children· = c .before .before .before .before .before .before .before .children in
     let size-of· = c .before .before .before .before .before .before .size-of in
-    (omega (arith, pre· .0, (expr-level (args· .tree .now) (args· .nest) any-expression (args· .at) ((pre· .1 .1) .read))), ((ready-on (omega arith) (omega arith) (pre· .1 .0)), plain-children (pre· .1 .1) (children-here (args· .tree .now) (args· .mark) (args· .at) (children· .ensures)) (size-of· .ensures .0)))
+    (rank-falls (args· .tree .now) _ _ ((args· .nest) - 1) (omega (arith, pre· .0, (expr-level (args· .tree .now) (args· .nest) any-expression (args· .at) ((pre· .1 .1) .read)))), ((ready-on (omega arith) (omega arith) (pre· .1 .0)), plain-children (pre· .1 .1) (children-here (args· .tree .now) (args· .mark) (args· .at) (children· .ensures)) (size-of· .ensures .0)))
 
 on-plain-enum-known-w : (t : ℕ) → on-plain-lts.Need-enum-known-w (
   children-reads.Asked,

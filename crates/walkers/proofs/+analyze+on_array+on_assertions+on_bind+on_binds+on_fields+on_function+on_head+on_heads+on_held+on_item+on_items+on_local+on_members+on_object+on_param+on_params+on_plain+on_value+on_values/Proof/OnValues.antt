@@ -9,7 +9,7 @@ use Rattle.joins.proofs.Turns.{Turn-values, values-begin, values-end, turn-valu
 use Rattle.walkers.proofs.on_value.Reads as on-value
 use Rattle.walkers.proofs.on_values.Reads as on-values
 use Rattle.walkers.proofs.+analyze+on_array+on_assertions+on_bind+on_binds+on_fields+on_function+on_head+on_heads+on_held+on_item+on_items+on_local+on_members+on_object+on_param+on_params+on_plain+on_value+on_values.Lts-on_values as on-values-lts
-use Rattle.tree.proofs.after_head.Reads as after-head-reads
+use Rattle.skipping.proofs.after_head.Reads as after-head-reads
 use Rattle.walkers.proofs.+analyze+on_array+on_assertions+on_bind+on_binds+on_fields+on_function+on_head+on_heads+on_held+on_item+on_items+on_local+on_members+on_object+on_param+on_params+on_plain+on_value+on_values.Proof.Measures.{on-value-below, on-values-at}
 
 abbrev on-values-Inv-loop : on-values-lts.InvT-loop

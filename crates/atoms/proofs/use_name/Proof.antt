@@ -1,0 +1,54 @@
+-- `use_name` is the rules' step of a name, up to the slot. Assumes nothing.
+use Rattle.rules.specs.Numbers.{code}
+use Rattle.atoms.proofs.Using.{identity-name, variable-name}
+use borrow.Author.Needs.{needs}
+use Rattle.atoms.proofs.use_name.Statement.{statement}
+use Rattle.atoms.proofs.use_name.Tie as tie
+
+use-identity-requires : tie.Need-use-identity-requires
+unfolding code
+use-identity-requires c κs = (c .before .before .before .before .before .before .before .before .pre .0, c .before .before .before .before .before .before .before .before .pre .1 (c .before .before .before .match .keys1), c .before .before .before .before .before .before .before .before .pre .2, c .before .before .before .before .before .before .before .before .pre .3)
+
+use-variable-requires : tie.Need-use-variable-requires
+use-variable-requires c κs = search needs
+
+same-length : tie.Need-same-length
+same-length c = search needs
+
+same-length-2 : tie.Need-same-length-2
+same-length-2 c = search needs
+
+same-length-3 : tie.Need-same-length-3
+same-length-3 c = search needs
+
+returns : tie.Need-returns
+unfolding code
+returns c = identity-name _ _ _ (c .before .before .before .before .use-identity .ensures) (c .before .before .before .before .before .before .before .before .match .keys1)
+
+same-length-4 : tie.Need-same-length-4
+same-length-4 c = search needs
+
+same-length-5 : tie.Need-same-length-5
+same-length-5 c = search needs
+
+same-length-6 : tie.Need-same-length-6
+same-length-6 c = search needs
+
+returns-2 : tie.Need-returns-2
+unfolding code
+returns-2 c = variable-name _ _ _ (c .before .before .before .before .before .before .use-variable .ensures) (λ e. c .before .before .before .before .before .before .before .before .before .before .match .rest .1 e)
+
+pub use-name-spec : {M : Type 1} → statement M
+use-name-spec =
+    tie.close
+    (tie.spec
+    use-identity-requires
+    use-variable-requires
+    same-length
+    same-length-2
+    same-length-3
+    returns
+    same-length-4
+    same-length-5
+    same-length-6
+    returns-2)

@@ -1,0 +1,24 @@
+-- `marks::has_room` meets its contract. Assumes nothing.
+use mathlib.Core.Path.{sym}
+use borrow.Author.Tests.{lt-leb}
+use Prim.Native.Nat.{_+_}
+use lib.ListN.{length}
+use Rattle.marks.proofs.Laws.{leb-minus}
+use borrow.Author.Needs.{needs}
+use native.Mathlib.Omega.{arith}
+use Rattle.marks.proofs.has_room.Statement.{statement}
+use Rattle.marks.proofs.has_room.Tie as tie
+
+returns : tie.Need-returns
+returns c =
+    let args· = c .before .args in
+    sym (lt-leb (args· .at + args· .n) (length (args· .tree .now)) (omega arith))
+
+sub-result : tie.Need-sub-result
+sub-result c = search needs
+
+returns-2 : tie.Need-returns-2
+returns-2 c = leb-minus (c .before .args .at) (c .before .args .n) (length (c .before .args .tree .now)) (c .if1 .left)
+
+pub has-room-spec : {M : Type 1} → statement M
+has-room-spec = tie.close (tie.spec returns sub-result returns-2)

@@ -1,0 +1,54 @@
+-- `zero_bytes` clears from an offset on. The invariant: what lies before i is cleared, and the length is as it was. Assumes nothing.
+use mathlib.Core.List.{List}
+use native.Mathlib.Nat.{sub-self}
+use Rattle.putting.proofs.Laws.{zeros-more, zeros-end}
+use lib.Seq.{sets, length-sets}
+use lib.ListN.{replicate}
+use Prim.Native.Nat.{ℕ, _≤_, _-_, _+_}
+use mathlib.Core.Path.{_≡_, refl, sym, ap, _∙_}
+use lib.ListN.{length}
+use borrow.Author.Needs.{needs}
+use native.Mathlib.Omega.{arith}
+use Rattle.putting.proofs.zero_bytes.Statement.{statement}
+use Rattle.putting.proofs.zero_bytes.Tie as tie
+
+abbrev Inv-loop : tie.InvT-loop
+Inv-loop out₀ from i₀ out i = (from ≤ i) × (i - from ≤ length out₀ - from) × (length out ≡ length out₀) × (out ≡ sets out₀ from (replicate (i - from) 0))
+
+abbrev μ-loop : tie.MeasureT-loop
+μ-loop out₀ from i₀ out i = length out₀ - i
+
+loop-holds : tie.Need-loop-holds Inv-loop μ-loop
+loop-holds c = (omega arith, omega arith, refl, sym (ap (λ (n : ℕ). sets (c .args .out .now) (c .args .from) (replicate n 0)) (sub-self (c .args .from))))
+
+slice-write-out : tie.Need-slice-write-out Inv-loop μ-loop
+slice-write-out c = omega arith
+
+add-i : tie.Need-add-i Inv-loop μ-loop
+add-i c = omega arith
+
+loop-less : tie.Need-loop-less Inv-loop μ-loop
+loop-less c = omega arith
+
+loop-again : tie.Need-loop-again Inv-loop μ-loop
+loop-again c = let e = ap (λ (l : List ℕ). lib.ListN.set l (c .before .loop .i) 0) (c .before .loop .inv .3) ∙ zeros-more (c .before .before .args .out .now) (c .before .before .args .from) (c .before .loop .i) (omega arith) in (omega arith, omega arith, ap length e ∙ simp length-sets, e)
+
+same-length : tie.Need-same-length Inv-loop μ-loop
+same-length c = c .before .loop .inv .2
+
+returns : tie.Need-returns Inv-loop μ-loop
+returns c = c .before .loop .inv .3 ∙ zeros-end (c .before .before .args .out .now) (c .before .before .args .from) (c .before .loop .i) (omega arith) (omega arith) (omega arith)
+
+pub zero-bytes-spec : {M : Type 1} → statement M
+zero-bytes-spec =
+    tie.close
+    (tie.spec
+    Inv-loop
+    μ-loop
+    loop-holds
+    slice-write-out
+    add-i
+    loop-less
+    loop-again
+    same-length
+    returns)

@@ -1,0 +1,4 @@
+-- What the contracts cite beside the rules.
+pub mod Meaning
+pub mod Kept
+pub mod Answers
