@@ -406,7 +406,7 @@ common=['use Prim.Native.Nat.{ℕ, _+_, _-_, _*_, _<_, _≤_}','use borrow.Autho
 'use Rattle.runs.proofs.Holders.{held-marked, held-sized, held-size, held-first, not-held}',
 'use Rattle.runs.proofs.Lists.{head-fits, head-name, value-there, value-head-fits, binds-short, params-short, bind-fits, bind-value, param-fits, param-default}',
 'use Rattle.state.specs.Seen.{buffers, stack, limits-of}','use Rattle.keeping.specs.Answers.{spec-mark, spec-numbers}','use Rattle.state.specs.Walks.{place-of, naming-of}',
-'use Rattle.opening.proofs.Laws.{outermost-so, stack-depending, fit-depending}',
+'use Rattle.placing.proofs.Laws.{outermost-so}','use Rattle.opening.proofs.Laws.{stack-depending, fit-depending}',
 'use Rattle.joins.specs.Ready.{an-argument, a-part, an-assertion}',
 J+'Joining.{unopened, valueless, specless, unkept, went-fit, kept-fit}',
 J+'Readiness.{ready-on}',

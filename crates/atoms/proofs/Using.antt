@@ -17,11 +17,12 @@ use Rattle.rules.specs.Writing as writing
 use Rattle.rules.specs.Scoping as scoping
 use Rattle.rules.specs.Walk as walk
 use Rattle.depths.specs.declared.AnalysisResult.{AnalysisResult}
-use Rattle.locals.specs.Meaning.{locals-of, found}
-use Rattle.locals.specs.declared.Found.{Found}
-use Rattle.locals.specs.declared.Found.the-variants.{At, Nothing}
+use Rattle.entries.specs.Meaning.{locals-of}
+use Rattle.searching.specs.Answers.{found}
+use Rattle.searching.specs.declared.Found.{Found}
+use Rattle.searching.specs.declared.Found.the-variants.{At, Nothing}
 use Rattle.locals.specs.declared.LocalId.{LocalId}
-use Rattle.locals.proofs.Laws.{length-locals}
+use Rattle.entries.proofs.Laws.{length-locals}
 use Rattle.resolving.specs.Kept.{Kept}
 use Rattle.runs.specs.Steps.{and-place}
 use Rattle.state.specs.Seen.{Buffers, buffers, stack, Fit}
@@ -31,7 +32,7 @@ use Rattle.state.specs.declared.Limits.{Limits}
 use Rattle.state.specs.declared.Place.{Place}
 use Rattle.state.specs.declared.Step.{Step}
 use Rattle.state.specs.declared.Walked.{Walked}
-use Rattle.naming.specs.Answers.{TouchedLocal, TouchedObject}
+use Rattle.touching.specs.Answers.{TouchedLocal, TouchedObject}
 use Rattle.using.specs.Answers.{SlotEmitted}
 use Rattle.writing.specs.Answers.{Emitted, BadPlace}
 use Rattle.atoms.specs.Answers.{behind, identity-id, object-used, identity-step, variable-step, name-step, UsedObject, UsedLocal, SlotLeft, StepMade, Left, Uses, NameAnalyzed}

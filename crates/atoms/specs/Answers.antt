@@ -1,6 +1,6 @@
 -- What each record's walk answers and leaves, whatever the buffers hold that it does not touch. A primed list is what it leaves of a buffer.
 -- Assumes nothing.
-use Prim.Native.Nat.{ℕ, zero, suc, _+_, _*_}
+use Prim.Native.Nat.{ℕ, zero, suc, _+_}
 use mathlib.Core.List.{List}
 use mathlib.Core.Path.{_≡_}
 use lib.Dec.{eqb}
@@ -9,8 +9,7 @@ use Rattle.rules.specs.Numbers.{number-at, code, ID}
 use Rattle.rules.specs.State as rules
 use Rattle.rules.specs.Scoping as scoping
 use Rattle.rules.specs.Walk as walk
-use Rattle.runs.specs.Steps.{and-place, span-at, import-steps, copied, constants-steps, head-written}
-use Rattle.marks.specs.Marks.{mark-of}
+use Rattle.runs.specs.Steps.{and-place, span-at, import-steps, head-written}
 use Rattle.state.specs.Seen.{limits-of, buffers, stack, Fit}
 use Rattle.state.specs.Walks.{place-of, Walks, Steps}
 use Rattle.state.specs.declared.Place.{Place}
@@ -117,22 +116,3 @@ pub record HeadEmitted (r : Walked) (tree out out′ : List ℕ) (st : AnalysisS
       → Fit l (buffers out diagnostics locals frames captures references) st
       → Walks r l (buffers out diagnostics locals frames captures references) (buffers out′ diagnostics locals frames captures references) st
       (λ limits st. head-written limits tree at next st)
-
--- Records that are the output's too, and arrays of constants
-
-pub record RecordCopied (r : Walked) (tree out out′ : List ℕ) (st : AnalysisStack) (at next mark : ℕ) : Type 0 where
-  pub walks : (l : Limits) (diagnostics locals frames captures references : List ℕ)
-      → Fit l (buffers out diagnostics locals frames captures references) st
-      → Walks r l (buffers out diagnostics locals frames captures references) (buffers out′ diagnostics locals frames captures references) st
-      (λ limits st. copied limits tree (mark-of mark) at next st)
-
-pub record ConstantsEmitted (r : Walked) (tree out out′ : List ℕ) (st : AnalysisStack) (at n : ℕ) : Type 0 where
-  pub walks : (l : Limits) (diagnostics locals frames captures references : List ℕ)
-      → Fit l (buffers out diagnostics locals frames captures references) st
-      → Walks r l (buffers out diagnostics locals frames captures references) (buffers out′ diagnostics locals frames captures references) st
-      (λ limits st. constants-steps limits tree n at st)
-
--- numbers of four bytes each fill what lies between two places
-pub record Numbers (from to : ℕ) : Type 0 where
-  pub count : ℕ
-  pub sized : to ≡ from + 4 * count

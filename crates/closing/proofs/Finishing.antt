@@ -25,7 +25,8 @@ use Rattle.state.specs.declared.Step.{Step}
 use Rattle.state.specs.declared.Step.the-variants.{Ok, Refused}
 use Rattle.writing.specs.Answers.{FrameClosed}
 use Rattle.writing.proofs.Laws.{limits-same}
-use Rattle.closing.specs.Answers.{SettledFrame, judge-frame, JudgedAll, forget-names, ForgottenNames}
+use Rattle.judging.specs.Answers.{SettledFrame, judge-frame, JudgedAll}
+use Rattle.closing.specs.Answers.{forget-names, ForgottenNames}
 
 -- Judging leaves the references
 

@@ -13,7 +13,7 @@ use Rattle.rules.specs.State as rules
 use Rattle.rules.specs.Scoping.{first-in-frame}
 use Rattle.tables.specs.Rows.{row, rows}
 use Rattle.tables.proofs.Laws.{length-rows}
-use Rattle.locals.specs.Meaning.{local-of-row, locals-of}
+use Rattle.entries.specs.Meaning.{local-of-row, locals-of}
 use Rattle.references.specs.Meaning.{reference-of-row, references-of}
 use Rattle.frames.specs.Meaning.{number}
 use Rattle.resolving.specs.Meaning.{frame-of, frames-of}

@@ -1,7 +1,5 @@
 -- What the proofs of several functions use.
-pub mod Settled
-pub mod Judging
 pub mod Forgetting
 pub mod Finishing
-pub mod Recording
+pub mod Behind
 pub mod Functions

@@ -9,8 +9,8 @@ use lib.ListN.{length, take, length-take}
 use Rattle.rules.specs.Numbers.{number-at, is-set}
 use Rattle.rules.specs.State as rules
 use Rattle.rules.specs.Writing.{open-frame}
-use Rattle.locals.specs.Meaning.{locals-of}
-use Rattle.locals.proofs.Laws.{length-locals}
+use Rattle.entries.specs.Meaning.{locals-of}
+use Rattle.entries.proofs.Laws.{length-locals}
 use Rattle.references.specs.Meaning.{references-of}
 use Rattle.references.proofs.Keeping.{length-references}
 use Rattle.settle.specs.Meaning.{Below}
@@ -23,8 +23,8 @@ use Rattle.state.specs.declared.Limits.{Limits}
 use Rattle.state.specs.declared.Place.{Place}
 use Rattle.state.specs.declared.Step.{Step}
 use Rattle.writing.specs.Answers.{FrameOpened}
-use Rattle.opening.specs.Answers.{Fitting}
-use Rattle.closing.specs.Answers.{Settleable}
+use Rattle.declaring.specs.Answers.{Fitting}
+use Rattle.judging.specs.Answers.{Settleable}
 use Rattle.joins.specs.Ready.{Within, Ready}
 
 -- an opened frame as a step

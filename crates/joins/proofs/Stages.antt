@@ -34,8 +34,8 @@ use Rattle.state.specs.declared.Walked.{Walked}
 use Rattle.state.specs.declared.Walked.the-variants as walked-as
 use Rattle.state.specs.declared.Specs.{Specs}
 use Rattle.state.specs.declared.Specs.the-variants as specs-as
-use Rattle.closing.specs.Answers.{Settleable}
-use Rattle.opening.specs.Answers.{IsStatic}
+use Rattle.judging.specs.Answers.{Settleable}
+use Rattle.distinct.specs.Answers.{IsStatic}
 use Rattle.runs.proofs.Holders.{held-second}
 use Rattle.joins.proofs.Returns.{the-holder}
 use Rattle.joins.specs.Ready.{Ready, There, Plain-there, Members-there, Fields-there, Held-there, fields-steps, static-of}

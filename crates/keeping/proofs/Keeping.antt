@@ -22,7 +22,7 @@ use Rattle.tables.proofs.Laws.{length-rows}
 use Rattle.tables.specs.Rows.{rows}
 use Rattle.depths.specs.Meaning.{result}
 use Rattle.depths.specs.declared.AnalysisResult.{AnalysisResult}
-use Rattle.locals.proofs.Laws.{length-locals}
+use Rattle.entries.proofs.Laws.{length-locals}
 use Rattle.references.specs.Meaning.{references-of, reference-of-row}
 use Rattle.frames.specs.Meaning.{number}
 use Rattle.resolving.specs.Meaning.{frames-of}
@@ -35,7 +35,8 @@ use Rattle.state.specs.declared.Specs.{Specs}
 use Rattle.state.specs.declared.Specs.the-variants as specs-as
 use Rattle.writing.specs.Answers.{Emitted, FrameClosed}
 use Rattle.writing.proofs.Laws.{limits-same}
-use Rattle.naming.specs.Answers.{FirstInFrame, IsKept, SetAnalysis, KeptReferences}
+use Rattle.naming.specs.Answers.{FirstInFrame}
+use Rattle.retaining.specs.Answers.{IsKept, SetAnalysis, KeptReferences}
 use Rattle.keeping.specs.Answers.{spec-mark, spec-numbers, kept-spec, OuterTainted, SpecDropped, SpecWritten, SpecKept, Counted, SpecRecorded, SpecClosed}
 use Rattle.keeping.specs.declared.Spec.{Spec}
 use Rattle.keeping.specs.declared.Spec.the-variants.{Bind, Param}

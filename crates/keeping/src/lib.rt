@@ -8,9 +8,9 @@ ghost use Rattle.keeping.specs.Answers.{Placed, ArrayClosed, ValueClosed
 use depths::AnalysisResult;
 use locals::LocalId;
 use naming::first_in_frame;
-use naming::is_kept;
-use naming::keep_references;
-use naming::set_analysis;
+use retaining::is_kept;
+use retaining::keep_references;
+use retaining::set_analysis;
 use state::AnalysisStack;
 use state::Limits;
 use state::Specs;

@@ -7,7 +7,7 @@ ghost use Rattle.joins.specs.Ready.{Ready};
 ghost use Rattle.leaves.specs.Leaves.{is-leaf, Leaf-there};
 use atoms::analyze_import;
 use atoms::analyze_name;
-use atoms::copy_record;
+use copying::copy_record;
 use marks::ID;
 use marks::IM;
 use marks::TV;

@@ -1,3 +1,2 @@
 -- What the contracts cite beside the rules.
 pub mod Meaning
-pub mod Tables

@@ -22,10 +22,11 @@ use Rattle.rules.specs.State as state
 use Rattle.rules.specs.State.{with-locals, with-frames}
 use Rattle.rules.specs.Scoping.{is-taken, push-local, push-in-frame, define-local, define-this}
 use Rattle.tables.specs.Rows.{row, rows}
-use Rattle.locals.specs.Meaning.{local, local-of-row, locals-of}
-use Rattle.locals.specs.Tables.{PutLocal}
+use Rattle.locals.specs.Meaning.{local}
+use Rattle.entries.specs.Meaning.{local-of-row, locals-of}
+use Rattle.entries.specs.Tables.{PutLocal}
 use Rattle.locals.specs.declared.LocalDefinition.{LocalDefinition}
-use Rattle.locals.proofs.Laws.{length-locals}
+use Rattle.entries.proofs.Laws.{length-locals}
 use Rattle.frames.specs.Meaning.{number}
 use Rattle.resolving.specs.Meaning.{frame-of, frames-of}
 use Rattle.resolving.specs.Kept.{Kept}

@@ -1,4 +1,4 @@
--- Laws of the frame on top, of a name in it and of the local that is to be kept next. Assumes nothing.
+-- Laws of the frame on top and of a name in it. Assumes nothing.
 use Prim.Native.Nat.{ℕ, _+_, _-_, _≤_, _<_}
 use mathlib.Core.Bool.{Bool, true, false}
 use mathlib.Core.List.{List, []}
@@ -6,17 +6,17 @@ use mathlib.Core.Option.{Option}
 use mathlib.Core.Path.{_≡_, sym, ap, _∙_}
 use native.Mathlib.Decide.{decLt}
 use native.Mathlib.Omega.{arith}
-use lib.ListN.{length, List·getD-eq-default}
+use lib.ListN.{length}
 use Rattle.rules.specs.Outcome.{given}
 use Rattle.rules.specs.Locals as rules
 use Rattle.rules.specs.Frames.{top, no-frame, new-frame}
-use Rattle.rules.specs.Scoping.{first-in-frame, is-taken, is-at, is-kept}
-use Rattle.locals.specs.Meaning.{local, binding, locals-of, found}
-use Rattle.locals.specs.declared.LocalDefinition.{LocalDefinition}
-use Rattle.locals.specs.declared.Found.{Found}
-use Rattle.locals.specs.declared.Found.the-variants.{At, Nothing}
+use Rattle.rules.specs.Scoping.{first-in-frame, is-taken}
+use Rattle.entries.specs.Meaning.{locals-of}
+use Rattle.searching.specs.Answers.{found}
+use Rattle.searching.specs.declared.Found.{Found}
+use Rattle.searching.specs.declared.Found.the-variants.{At, Nothing}
 use Rattle.locals.specs.declared.LocalId.{LocalId}
-use Rattle.locals.proofs.Laws.{length-locals}
+use Rattle.entries.proofs.Laws.{length-locals}
 use Rattle.frames.specs.Meaning.{number}
 use Rattle.resolving.specs.Meaning.{frame-of, frames-of}
 use Rattle.frames.specs.Answers.{FrameAt}
@@ -24,7 +24,7 @@ use Rattle.frames.specs.declared.Frame.{Frame}
 use Rattle.resolving.proofs.Laws.{frames-top}
 use Rattle.state.specs.Seen.{Buffers, buffers, stack}
 use Rattle.state.specs.declared.AnalysisStack.{AnalysisStack}
-use Rattle.naming.specs.Answers.{FirstInFrame, IsTaken, IsKept}
+use Rattle.naming.specs.Answers.{FirstInFrame, IsTaken}
 
 -- The frame on top
 
@@ -55,59 +55,30 @@ module _ (frames : List ℕ) (st : AnalysisStack) where
       by (yes is-open) = omega (arith, is .same [] [] [] [] [], first-of-top (buffers [] [] [] frames [] []) st is-open, there (st .frames - 1) (omega arith))
       by (no none) = omega (arith, is .same [] [] [] [] [], first-of-none (buffers [] [] [] frames [] []) st (omega arith))
 
-module _ (locals frames : List ℕ) (st : AnalysisStack) (first : ℕ) (is : FirstInFrame first frames st) where
-  -- A name
+-- A name
 
-  module _ (name : ℕ) where
-    abbrev told : Option ℕ → Bool
-    told o = given o (λ _. false) (λ id. true)
+module _ (locals frames : List ℕ) (st : AnalysisStack) (first : ℕ) (is : FirstInFrame first frames st) (name : ℕ) where
+  abbrev told : Option ℕ → Bool
+  told o = given o (λ _. false) (λ id. true)
 
-    taken-told : (out diagnostics captures references : List ℕ)
-        → is-taken name (stack (buffers out diagnostics locals frames captures references) st) ≡ told (rules.newest name (locals-of (st .locals) locals) first (st .locals - first))
-    unfolding is-taken stack
-    taken-told out diagnostics captures references =
-        let ls = locals-of (st .locals) locals in
-        ap (λ (f : ℕ). told (rules.newest name ls f (length ls - f))) (sym (is .same out diagnostics locals captures references))
-        ∙ ap (λ (n : ℕ). told (rules.newest name ls first (n - first))) (length-locals (st .locals) locals)
+  taken-told : (out diagnostics captures references : List ℕ)
+      → is-taken name (stack (buffers out diagnostics locals frames captures references) st) ≡ told (rules.newest name (locals-of (st .locals) locals) first (st .locals - first))
+  unfolding is-taken stack
+  taken-told out diagnostics captures references =
+      let ls = locals-of (st .locals) locals in
+      ap (λ (f : ℕ). told (rules.newest name ls f (length ls - f))) (sym (is .same out diagnostics locals captures references))
+      ∙ ap (λ (n : ℕ). told (rules.newest name ls first (n - first))) (length-locals (st .locals) locals)
 
-    module _ (f : Found) (within : first ≤ st .locals)
-        (searched : (total : ℕ) → first + (st .locals - first) ≤ total → found f ≡ rules.newest name (locals-of total locals) first (st .locals - first)) where
-      pub taken : (id : LocalId) → f ≡ At id → IsTaken true locals frames st name
-      unfolding found given
-      taken id e = record {
-        same = λ out diagnostics captures references. sym (taken-told out diagnostics captures references ∙ ap told (sym (searched (st .locals) (omega arith)) ∙ ap found e));
-      }
+  module _ (f : Found) (within : first ≤ st .locals)
+      (searched : (total : ℕ) → first + (st .locals - first) ≤ total → found f ≡ rules.newest name (locals-of total locals) first (st .locals - first)) where
+    pub taken : (id : LocalId) → f ≡ At id → IsTaken true locals frames st name
+    unfolding found given
+    taken id e = record {
+      same = λ out diagnostics captures references. sym (taken-told out diagnostics captures references ∙ ap told (sym (searched (st .locals) (omega arith)) ∙ ap found e));
+    }
 
-      pub free : f ≡ Nothing → IsTaken false locals frames st name
-      unfolding found given
-      free e = record {
-        same = λ out diagnostics captures references. sym (taken-told out diagnostics captures references ∙ ap told (sym (searched (st .locals) (omega arith)) ∙ ap found e));
-      }
-
-  -- The local to be kept next
-
-  module _ (place next : ℕ) where
-    kept-told : (out diagnostics captures references : List ℕ)
-        → is-kept place next (stack (buffers out diagnostics locals frames captures references) st) ≡ is-at place (rules.local-at (locals-of (st .locals) locals) (first + next) .stands-for)
-    unfolding is-kept stack
-    kept-told out diagnostics captures references =
-        ap (λ (f : ℕ). is-at place (rules.local-at (locals-of (st .locals) locals) (f + next) .stands-for)) (sym (is .same out diagnostics locals captures references))
-
-    pub none-left : st .locals ≤ first + next → IsKept false locals frames st place next
-    unfolding is-at rules.local-at rules.no-local rules.new-local
-    none-left past =
-        let outside : length (locals-of (st .locals) locals) ≤ first + next = omega (arith, length-locals (st .locals) locals) in
-        record {
-          same = λ out diagnostics captures references. sym (kept-told out diagnostics captures references
-              ∙ ap (λ (l : rules.LocalDefinition). is-at place (l .stands-for)) (List·getD-eq-default (locals-of (st .locals) locals) rules.no-local outside));
-        }
-
-    pub next-tells : (r : Bool) (l : LocalDefinition) → first + next < st .locals
-        → ((n : ℕ) → first + next < n → local l ≡ rules.local-at (locals-of n locals) (first + next))
-        → r ≡ is-at place (binding (l .«is_record») (l .place)) → IsKept r locals frames st place next
-    unfolding local
-    next-tells r l inside read tells = record {
-      same = λ out diagnostics captures references. tells
-          ∙ ap (λ (d : rules.LocalDefinition). is-at place (d .stands-for)) (read (st .locals) inside)
-          ∙ sym (kept-told out diagnostics captures references);
+    pub free : f ≡ Nothing → IsTaken false locals frames st name
+    unfolding found given
+    free e = record {
+      same = λ out diagnostics captures references. sym (taken-told out diagnostics captures references ∙ ap told (sym (searched (st .locals) (omega arith)) ∙ ap found e));
     }

@@ -1,4 +1,3 @@
 -- What the proofs of several functions use.
 pub mod Finding
 pub mod Defining
-pub mod Using

@@ -1,12 +1,9 @@
 -- What the steps answer and leave, whatever the buffers hold that a step does not touch. A primed list is what a step leaves of a buffer.
 -- Assumes nothing.
-use Prim.Native.Nat.{ℕ, _-_}
+use Prim.Native.Nat.{ℕ}
 use mathlib.Core.Bool.{Bool, false}
 use mathlib.Core.List.{List, _∷_}
 use mathlib.Core.Path.{_≡_}
-use Rattle.rules.specs.Outcome.{choose}
-use Rattle.rules.specs.Depths as depths
-use Rattle.rules.specs.Locals as locals
 use Rattle.rules.specs.Frames as frames
 use Rattle.rules.specs.State as rules
 use Rattle.rules.specs.Scoping as scoping
@@ -16,12 +13,6 @@ use Rattle.state.specs.Seen.{span-of, buffers, stack, seen, limits-of, Fit, Fit
 use Rattle.state.specs.declared.AnalysisStack.{AnalysisStack}
 use Rattle.state.specs.declared.Limits.{Limits}
 use Rattle.state.specs.declared.Step.{Step}
-
--- what a value depends on that uses a local
-unfoldable pub tainted-by-local : depths.AnalysisResult → locals.LocalDefinition → depths.AnalysisResult
-tainted-by-local a l =
-    let taint = depths.depend-on-local (l .defined-at-depth) a in
-    choose (l .analyzed) (λ _. depths.taint-by taint (l .analysis)) (λ _. taint)
 
 -- the frame on top with one local more
 unfoldable pub one-more-local : rules.AnalysisStack → rules.AnalysisStack
@@ -34,9 +25,6 @@ pub record FirstInFrame (r : ℕ) (frames : List ℕ) (st : AnalysisStack) : Typ
 
 pub record IsTaken (r : Bool) (locals frames : List ℕ) (st : AnalysisStack) (name : ℕ) : Type 0 where
   pub same : (out diagnostics captures references : List ℕ) → r ≡ scoping.is-taken name (stack (buffers out diagnostics locals frames captures references) st)
-
-pub record IsKept (r : Bool) (locals frames : List ℕ) (st : AnalysisStack) (place next : ℕ) : Type 0 where
-  pub same : (out diagnostics captures references : List ℕ) → r ≡ scoping.is-kept place next (stack (buffers out diagnostics locals frames captures references) st)
 
 -- Defining
 
@@ -76,32 +64,3 @@ pub record DefinedThis (r : Step) (locals locals′ frames frames′ : List ℕ)
       ≡ scoping.define-this (limits-of limits out diagnostics) place depth (stack (buffers out diagnostics locals frames captures references) st)
   pub fit : (out diagnostics captures references : List ℕ)
       → Fit limits (buffers out diagnostics locals frames captures references) st → Fits limits r (buffers out diagnostics locals′ frames′ captures references)
-
--- Using
-
-pub record TouchedLocal (r : AnalysisStack) (locals locals′ : List ℕ) (st : AnalysisStack) (depth id : ℕ) : Type 0 where
-  pub same : (out diagnostics frames captures references : List ℕ)
-      → stack (buffers out diagnostics locals′ frames captures references) r ≡ scoping.touch-local depth id (stack (buffers out diagnostics locals frames captures references) st)
-  pub fit : (l : Limits) (out diagnostics frames captures references : List ℕ)
-      → Fit l (buffers out diagnostics locals frames captures references) st → Fit l (buffers out diagnostics locals′ frames captures references) r
-
-pub record TouchedObject (r : AnalysisStack) (locals : List ℕ) (st : AnalysisStack) (id : ℕ) : Type 0 where
-  pub same : (out diagnostics frames captures references : List ℕ)
-      → stack (buffers out diagnostics locals frames captures references) r ≡ scoping.touch-object id (stack (buffers out diagnostics locals frames captures references) st)
-  pub fit : (l : Limits) (out diagnostics frames captures references : List ℕ)
-      → Fit l (buffers out diagnostics locals frames captures references) st → Fit l (buffers out diagnostics locals frames captures references) r
-
--- Keeping a spec
-
-pub record SetAnalysis (r : AnalysisStack) (locals locals′ : List ℕ) (st : AnalysisStack) (id : ℕ) : Type 0 where
-  pub same : (out diagnostics frames captures references : List ℕ)
-      → stack (buffers out diagnostics locals′ frames captures references) r ≡ scoping.set-analysis id (stack (buffers out diagnostics locals frames captures references) st)
-  pub fit : (l : Limits) (out diagnostics frames captures references : List ℕ)
-      → Fit l (buffers out diagnostics locals frames captures references) st → Fit l (buffers out diagnostics locals′ frames captures references) r
-
-pub record KeptReferences (r : Step) (locals locals′ references references′ frames : List ℕ) (limits : Limits) (st : AnalysisStack) (place id : ℕ) : Type 0 where
-  pub same : (out diagnostics captures : List ℕ)
-      → seen r (buffers out diagnostics locals′ frames captures references′)
-      ≡ scoping.keep-references (limits-of limits out diagnostics) place id (stack (buffers out diagnostics locals frames captures references) st)
-  pub fit : (out diagnostics captures : List ℕ)
-      → Fit limits (buffers out diagnostics locals frames captures references) st → Fits limits r (buffers out diagnostics locals′ frames captures references′)

@@ -1,29 +1,21 @@
-// Steps on a frame's names over the state and the lent tables: finding, defining, using, keeping a spec.
+// Steps on the names of the frame on top, over the state and the lent tables: a name found, a local defined.
 ghost use mathlib.Core.Path.{_≡_};
-ghost use Prim.Native.Nat.{ℕ, _+_, _*_, _-_, _<_, _≤_};
+ghost use Prim.Native.Nat.{ℕ, _*_, _-_, _<_, _≤_};
 ghost use lib.ListN.{length};
-ghost use Rattle.rules.specs.Scoping.{is-at, could-be-hoisted};
 ghost use Rattle.rules.specs.Tree.{at-record};
 ghost use Rattle.rules.specs.Locals.{new-local};
-ghost use Rattle.locals.specs.Meaning.{local, named, binding};
-ghost use Rattle.depths.specs.Meaning.{result};
+ghost use Rattle.locals.specs.Meaning.{local, named};
 ghost use Rattle.frames.specs.Meaning.{number};
-ghost use Rattle.naming.specs.Answers.{FirstInFrame, IsTaken, IsKept, CountedLocal, PushedLocal, PushedInFrame, DefinedNew, DefinedThis, TouchedLocal, TouchedObject, SetAnalysis, KeptReferences, tainted-by-local};
+ghost use Rattle.naming.specs.Answers.{FirstInFrame, IsTaken, CountedLocal, PushedLocal, PushedInFrame, DefinedNew, DefinedThis};
 ghost use Rattle.state.specs.Seen.{span-of};
 use depths::AnalysisResult;
+use entries::put_local;
 use frames::frame_at;
 use frames::put_frame;
-use locals::Found;
 use locals::LocalDefinition;
 use locals::LocalId;
-use locals::local_at;
-use locals::newest;
-use locals::note_reference;
-use locals::put_local;
-use locals::put_use;
-use locals::use_at;
-use locals::with_analysis;
-use references::Kept;
+use searching::Found;
+use searching::newest;
 use state::AnalysisStack;
 use state::Limits;
 use state::Step;
@@ -166,131 +158,4 @@ pub fn define_this(
 {
     let l = new_local(place as u32, false, 0, 0, depth, true);
     push_in_frame(locals, frames, limits, st, place, l)
-}
-
-// What the present value depends on once it uses a local.
-fn taint_by_local(taint: AnalysisResult, l: LocalDefinition) -> AnalysisResult
-    ensures { λ r. ⌜ result r ≡ tainted-by-local (result taint) (local l) ⌝ }
-{
-    let depends = taint.depend_on_local(l.defined_at_depth);
-    if l.analyzed {
-        let analysis = l.analysis;
-        return depends.taint_by(analysis);
-    }
-    depends
-}
-
-// A use of a local.
-pub fn touch_local(locals: &mut [u32], st: AnalysisStack, depth: u32, id: LocalId) -> AnalysisStack
-    requires { ⌜ (16 * st .locals ≤ length (now locals)) × (id .0 < st .locals) ⌝ }
-    ensures { λ r. ⌜ TouchedLocal r (now (locals .entry)) (now (locals .exit)) st depth (id .0) ⌝ }
-{
-    let l = local_at(locals, id);
-    let used = use_at(l, depth);
-    put_use(locals, id, note_reference(used));
-    let before = st.taint;
-    let taint = taint_by_local(before, l);
-    let mut after = st;
-    after.taint = taint;
-    after
-}
-
-// A use of an object's `this`.
-pub fn touch_object(locals: &[u32], st: AnalysisStack, id: LocalId) -> AnalysisStack
-    requires { ⌜ (16 * st .locals ≤ length (now locals)) × (id .0 < st .locals) ⌝ }
-    ensures { λ r. ⌜ TouchedObject r (now (locals .entry)) st (id .0) ⌝ }
-{
-    let l = local_at(locals, id);
-    let depth = l.defined_at_depth;
-    let before = st.taint;
-    let depends = before.depend_on_local(depth);
-    let taint = depends.depend_on_object(depth);
-    let mut after = st;
-    after.taint = taint;
-    after
-}
-
-// Whether a local is that of the record at this place.
-fn is_at(place: usize, is_record: bool, at: u32) -> bool
-    ensures { λ r. ⌜ r ≡ is-at place (binding «is_record» at) ⌝ }
-{
-    if is_record {
-        return place == at as usize;
-    }
-    false
-}
-
-// Whether the next of the frame's locals to be kept is that of the record at this place.
-pub fn is_kept(locals: &[u32], frames: &[u32], st: AnalysisStack, place: usize, next: u32) -> bool
-    requires { ⌜ (16 * st .locals ≤ length (now locals)) × (16 * st .frames ≤ length (now frames)) ⌝ }
-    ensures { λ r. ⌜ IsKept r (now (locals .entry)) (now (frames .entry)) st place next ⌝ }
-{
-    let first = first_in_frame(frames, st);
-    if st.locals <= first {
-        return false;
-    }
-    if st.locals - first <= next {
-        return false;
-    }
-    let l = local_at(locals, LocalId(first + next));
-    is_at(place, l.is_record, l.place)
-}
-
-// The local's analysis is that of the present value.
-pub fn set_analysis(locals: &mut [u32], st: AnalysisStack, id: LocalId) -> AnalysisStack
-    requires { ⌜ (16 * st .locals ≤ length (now locals)) × (id .0 < st .locals) ⌝ }
-    ensures { λ r. ⌜ SetAnalysis r (now (locals .entry)) (now (locals .exit)) st (id .0) ⌝ }
-{
-    let l = local_at(locals, id);
-    let taint = st.taint;
-    put_local(locals, id, with_analysis(l, taint));
-    st
-}
-
-// The references that a kept spec has noted, where R allows.
-pub fn keep_references(
-    locals: &mut [u32],
-    references: &mut [u32],
-    frames: &[u32],
-    limits: Limits,
-    st: AnalysisStack,
-    place: usize,
-    id: LocalId,
-) -> Step
-    requires { ⌜ (16 * st .locals ≤ length (now locals)) × (16 * st .frames ≤ length (now frames)) × (16 * limits .«max_references» ≤ length (now references)) × (st .references ≤ limits .«max_references») × ((f : ℕ) → f < st .frames → number (now frames) f 1 ≤ st .locals) ⌝ }
-    ensures { λ r. ⌜ KeptReferences r (now (locals .entry)) (now (locals .exit)) (now (references .entry)) (now (references .exit)) (now (frames .entry)) limits st place (id .0) ⌝ }
-{
-    let first = first_in_frame(frames, st);
-    let n = st.locals - first;
-    let kept = references::keep_references(
-        locals,
-        references,
-        id,
-        first as usize,
-        n as usize,
-        st.references as usize,
-        limits.max_references as usize,
-    );
-    match kept {
-        Kept::To(count) => {
-            let mut after = st;
-            after.references = count as u32;
-            Step::Ok(after)
-        }
-        Kept::NoRoom => Step::Refused(17, place),
-    }
-}
-
-// Whether the local could be defined further out.
-pub fn could_be_hoisted(l: LocalDefinition) -> bool
-    ensures { λ r. ⌜ r ≡ could-be-hoisted (local l) ⌝ }
-{
-    let depth = l.defined_at_depth;
-    if l.analysis.local_dependent_depth <= depth {
-        return false;
-    }
-    if l.analysis.object_dependent_depth <= depth {
-        return false;
-    }
-    0 < depth
 }

@@ -28,9 +28,10 @@ use Rattle.state.specs.declared.Walked.{Walked}
 use Rattle.state.specs.declared.Walked.the-variants as walked-as
 use Rattle.writing.specs.Answers.{FrameOpened}
 use Rattle.naming.specs.Answers.{DefinedThis}
-use Rattle.opening.specs.Answers.{Fitting, Opening, BindsDefined, ParamsDefined, LocalBegun, FunctionBegun, ObjectEntered, opened-object, ObjectOpened, ObjectBegun}
-use Rattle.opening.proofs.Laws.{outermost-so}
-use Rattle.opening.proofs.Turns.{length-frames, pushed-open}
+use Rattle.placing.proofs.Laws.{outermost-so}
+use Rattle.declaring.specs.Answers.{Fitting, BindsDefined, ParamsDefined}
+use Rattle.declaring.proofs.Turns.{length-frames, pushed-open}
+use Rattle.opening.specs.Answers.{Opening, LocalBegun, FunctionBegun, ObjectEntered, opened-object, ObjectOpened, ObjectBegun}
 
 -- A step and a walk after it
 

@@ -1,6 +1,3 @@
 -- What the proofs of several functions use.
 pub mod Laws
-pub mod Reading
-pub mod Turns
 pub mod Beginning
-pub mod Static

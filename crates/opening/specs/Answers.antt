@@ -1,19 +1,16 @@
--- What opening a frame and defining its names answer and leave, whatever the buffers hold that a function does not have; and what the small
--- questions answer. A primed list is what a step leaves of a buffer. Assumes nothing.
-use Prim.Native.Nat.{ℕ, zero, suc, _+_, _*_, _<_, _≤_}
-use mathlib.Core.Bool.{Bool, true}
-use mathlib.Core.List.{List, [], _∷_}
+-- What opening a frame and defining its names answer and leave, whatever the buffers hold that a function does not have. A primed list is what
+-- a step leaves of a buffer. Assumes nothing.
+use Prim.Native.Nat.{ℕ, _+_}
+use mathlib.Core.Bool.{true}
+use mathlib.Core.List.{List}
 use mathlib.Core.Path.{_≡_}
-use Rattle.rules.specs.Outcome.{choose, Outcome, ok, _>>=_}
-use Rattle.rules.specs.Numbers.{Name, number-at}
-use Rattle.rules.specs.Tree.{Heads}
+use Rattle.rules.specs.Outcome.{Outcome, _>>=_}
 use Rattle.rules.specs.State as rules
 use Rattle.rules.specs.State.{with-object-use}
 use Rattle.rules.specs.Writing.{open-frame}
 use Rattle.rules.specs.Scoping.{define-this}
 use Rattle.rules.specs.Walk as walk
-use Rattle.skipping.specs.Behind.{Skipped}
-use Rattle.runs.specs.Run.{Accepted, binds-at, params-at, heads-at, run-define-binds, run-define-params}
+use Rattle.runs.specs.Run.{Accepted, binds-at, params-at}
 use Rattle.runs.specs.Steps.{opened-value, begun-local, begun-function, begun-object}
 use Rattle.state.specs.Seen.{Buffers, buffers, stack, Fit}
 use Rattle.state.specs.Walks.{place-of, Walks, Steps}
@@ -23,22 +20,6 @@ use Rattle.state.specs.declared.Place.{Place}
 use Rattle.state.specs.declared.Step.{Step}
 use Rattle.state.specs.declared.Walked.{Walked}
 
--- What is asked for
-
--- n binds, parameters or heads were read there under some levels
-
-pub record Binds-there (s : List ℕ) (n at : ℕ) : Type 0 where
-  pub levels : ℕ
-  pub read : Accepted (binds-at s levels n at)
-
-pub record Params-there (s : List ℕ) (n at : ℕ) : Type 0 where
-  pub levels : ℕ
-  pub read : Accepted (params-at s levels n at)
-
-pub record Heads-there (s : List ℕ) (n at : ℕ) : Type 0 where
-  pub levels : ℕ
-  pub read : Accepted (heads-at s levels n at)
-
 -- the state fits both tables, with some of the other buffers
 pub record Opening (limits : Limits) (locals frames : List ℕ) (st : AnalysisStack) : Type 0 where
   pub out : List ℕ
@@ -47,29 +28,6 @@ pub record Opening (limits : Limits) (locals frames : List ℕ) (st : AnalysisSt
   pub references : List ℕ
   pub fit : Fit limits (buffers out diagnostics locals frames captures references) st
 
--- the state fits the buffers that a function has, with some of those that it does not have
-pub record Fitting (limits : Limits) (diagnostics locals frames : List ℕ) (st : AnalysisStack) : Type 0 where
-  pub out : List ℕ
-  pub captures : List ℕ
-  pub references : List ℕ
-  pub fit : Fit limits (buffers out diagnostics locals frames captures references) st
-
--- Places
-
-pub record Deeper (r here : Place) : Type 0 where
-  pub same : place-of r ≡ walk.deeper (place-of here)
-  pub depth : r .depth ≡ here .depth + 1
-  pub in-object : r .«in_object» ≡ here .«in_object»
-  pub this-local : r .«this_local» ≡ here .«this_local»
-  pub dollar-alias : r .«dollar_alias» ≡ here .«dollar_alias»
-
-pub record InObject (r here : Place) (id : ℕ) : Type 0 where
-  pub same : place-of r ≡ walk.in-object id (place-of here)
-  pub depth : r .depth ≡ here .depth
-  pub in-object : r .«in_object» ≡ true
-  pub this-local : r .«this_local» .0 ≡ id
-  pub dollar-alias : r .«dollar_alias» .0 ≡ choose (here .«in_object») (λ _. here .«dollar_alias» .0) (λ _. id)
-
 -- Frames
 
 pub record ValueOpened (r : Step) (frames frames′ : List ℕ) (limits : Limits) (st : AnalysisStack) (at : ℕ) : Type 0 where
@@ -77,26 +35,6 @@ pub record ValueOpened (r : Step) (frames frames′ : List ℕ) (limits : Limits
       → Fit limits (buffers out diagnostics locals frames captures references) st
       → Steps r limits (buffers out diagnostics locals frames captures references) (buffers out diagnostics locals frames′ captures references) st
       (λ limits st. opened-value limits at st)
-
--- Names
-
-pub record BindsDefined (r : Walked) (s diagnostics diagnostics′ locals locals′ frames frames′ : List ℕ) (limits : Limits) (st : AnalysisStack) (at n depth : ℕ) : Type 0 where
-  pub defined : (levels : ℕ) → Accepted (binds-at s levels n at)
-      → (out captures references : List ℕ)
-      → Fit limits (buffers out diagnostics locals frames captures references) st
-      → Walks r limits (buffers out diagnostics locals frames captures references) (buffers out diagnostics′ locals′ frames′ captures references) st
-      (λ limits st. run-define-binds s limits levels n at depth st)
-
-pub record ParamsDefined (r : Walked) (s diagnostics diagnostics′ locals locals′ frames frames′ : List ℕ) (limits : Limits) (st : AnalysisStack) (at n depth : ℕ) : Type 0 where
-  pub defined : (levels : ℕ) → Accepted (params-at s levels n at)
-      → (out captures references : List ℕ)
-      → Fit limits (buffers out diagnostics locals frames captures references) st
-      → Walks r limits (buffers out diagnostics locals frames captures references) (buffers out diagnostics′ locals′ frames′ captures references) st
-      (λ limits st. run-define-params s limits levels n at depth st)
-
--- the place behind the parameter: its default follows it where it has one
-abbrev pub AfterParam : List ℕ → (from to : ℕ) → Type 0
-AfterParam s from to = (number-at s (from + 10) ≡ 0 → to ≡ from + 14) × ((number-at s (from + 10) ≡ 0 → ⊥) → Skipped s (from + 14) to)
 
 -- Frames with their names
 
@@ -137,17 +75,3 @@ pub record ObjectOpened (r : Step) (locals locals′ frames frames′ : List ℕ
       → Fit limits (buffers out diagnostics locals frames captures references) st
       → Steps r limits (buffers out diagnostics locals frames captures references) (buffers out diagnostics locals′ frames′ captures references) st
       (λ limits st. opened-object limits at (place-of here) st)
-
--- Heads
-
--- the names of the first n heads, each of 26 bytes, the last first
-unfoldable pub names-before : (s : List ℕ) → (at n : ℕ) → List Name
-names-before s at zero = []
-names-before s at (suc n) = number-at s (at + 26 * n + 6) ∷ names-before s at n
-
--- none of these names is above the highest
-pub record NoneAbove (s : List ℕ) (at n highest : ℕ) : Type 0 where
-  pub below : (k : ℕ) → k < n → number-at s (at + 26 * k + 6) ≤ highest
-
-pub record IsStatic (r : Bool) (s : List ℕ) (at n : ℕ) : Type 0 where
-  pub same : (levels : ℕ) (hs : Heads) (q : ℕ) → heads-at s levels n at ≡ ok (hs, q) → r ≡ walk.is-static [] hs

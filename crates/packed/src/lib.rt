@@ -2,7 +2,6 @@
 ghost use mathlib.Core.Path.{_≡_};
 ghost use Prim.Native.Nat.{_+_, _<_, _≤_};
 ghost use lib.ListN.{length, getD};
-ghost use lib.Dec.{eqb};
 ghost use Rattle.rules.specs.Numbers.{number-at, code-at};
 
 fn wide(x: u8) -> u32
@@ -61,11 +60,4 @@ pub fn number_at(s: &[u8], at: usize) -> u32
         return whole_number(s, at);
     }
     first_number(&s[at..])
-}
-
-// Whether the two bytes at an offset are this mark.
-pub fn is_mark(s: &[u8], at: usize, mark: &[u8; 2]) -> bool
-    ensures { λ r. ⌜ r ≡ eqb (code-at (now (s .entry)) at) (code-at (now (mark .entry)) 0) ⌝ }
-{
-    mark_at(s, at) == 256 * wide(mark[0]) + wide(mark[1])
 }

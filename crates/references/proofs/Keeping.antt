@@ -15,10 +15,10 @@ use Rattle.rules.specs.Locals.{LocalDefinition, local-at, no-local, with-scratc
 use Rattle.rules.specs.Settling.{Reference}
 use Rattle.tables.specs.Rows.{row}
 use Rattle.tables.proofs.Laws.{row-at, row-set, row-beside, length-entries, entries-at, put-stored, put-behind}
-use Rattle.locals.specs.Meaning.{local-of-row, locals-of}
-use Rattle.locals.specs.Tables.{PutLocal}
-use Rattle.locals.proofs.Fours.{four-tests}
-use Rattle.locals.proofs.Laws.{set-not-zero, length-locals, locals-at, local-stored}
+use Rattle.entries.specs.Meaning.{local-of-row, locals-of}
+use Rattle.entries.specs.Tables.{PutLocal}
+use Rattle.entries.proofs.Fours.{four-tests}
+use Rattle.entries.proofs.Laws.{set-not-zero, length-locals, locals-at, local-stored}
 use Rattle.references.specs.Meaning.{reference, reference-of-row, references-of, reference-at}
 use Rattle.references.specs.Tables.{PutReference, NoneNoted, with-noted, cleared, AllKept}
 

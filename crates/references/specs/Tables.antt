@@ -6,7 +6,7 @@ use lib.ListN.{length, getD, take, drop}
 use Rattle.rules.specs.Locals.{LocalDefinition, noted, without-notes}
 use Rattle.rules.specs.Settling.{Reference}
 use Rattle.tables.specs.Rows.{Put}
-use Rattle.locals.specs.Meaning.{locals-of}
+use Rattle.entries.specs.Meaning.{locals-of}
 use Rattle.references.specs.Meaning.{reference, references-of}
 use Rattle.references.specs.declared.Kept.{Kept}
 use Rattle.references.specs.declared.Kept.the-variants.{To, NoRoom}

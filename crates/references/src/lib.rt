@@ -5,8 +5,8 @@ ghost use Prim.Native.Nat.{ℕ, _+_, _*_, _<_, _≤_};
 ghost use lib.ListN.{length};
 ghost use Rattle.references.specs.Meaning.{refers, reference-at, references-of};
 ghost use Rattle.references.specs.Tables.{PutReference, NoneNoted, Keeps};
+use entries::SCRATCH_REFERENCED;
 use locals::LocalId;
-use locals::SCRATCH_REFERENCED;
 
 // A reference kept for the spec `user`, whose value referred to its sibling `used`.
 pub struct Reference {

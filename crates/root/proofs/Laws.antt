@@ -14,7 +14,7 @@ use Rattle.rules.specs.Call as call
 use Rattle.depths.specs.declared.AnalysisResult.{AnalysisResult}
 use Rattle.depths.specs.Meaning.{result}
 use Rattle.tables.specs.Rows.{rows}
-use Rattle.locals.specs.Meaning.{locals-of}
+use Rattle.entries.specs.Meaning.{locals-of}
 use Rattle.references.specs.Meaning.{references-of}
 use Rattle.resolving.specs.Meaning.{frames-of}
 use Rattle.state.specs.Seen.{stack}

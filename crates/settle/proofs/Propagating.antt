@@ -13,9 +13,9 @@ use Rattle.rules.specs.Locals.{LocalDefinition, local-at, with-analysis, with-u
 use Rattle.rules.specs.Settling.{Reference, Round, Loop, propagate-analysis, propagate-use}
 use Rattle.tables.specs.Rows.{row}
 use Rattle.tables.proofs.Laws.{row-at, row-set, row-beside, length-row}
-use Rattle.locals.specs.Meaning.{local-of-row, locals-of}
-use Rattle.locals.specs.Tables.{PutLocal}
-use Rattle.locals.proofs.Laws.{locals-at, local-stored}
+use Rattle.entries.specs.Meaning.{local-of-row, locals-of}
+use Rattle.entries.specs.Tables.{PutLocal}
+use Rattle.entries.proofs.Laws.{locals-at, local-stored}
 use Rattle.references.specs.Meaning.{reference}
 use Rattle.settle.specs.Meaning.{round, Propagates}
 

@@ -9,7 +9,7 @@ use lib.ListN.{length}
 use Rattle.rules.specs.Outcome.{choose}
 use Rattle.rules.specs.Locals.{LocalDefinition}
 use Rattle.rules.specs.Settling.{Reference, Round, Loop, one-round, Settled, settle, settled}
-use Rattle.locals.specs.Meaning.{locals-of}
+use Rattle.entries.specs.Meaning.{locals-of}
 use Rattle.settle.specs.Meaning.{Below, Inside, round, after-rounds, OneRound, Settles}
 
 -- One round more

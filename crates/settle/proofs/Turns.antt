@@ -8,7 +8,7 @@ use native.Mathlib.Omega.{arith}
 use lib.ListN.{length, drop-of-length-le}
 use lib.Seq.{drop-cons}
 use Rattle.rules.specs.Settling.{Round, Loop, one-round}
-use Rattle.locals.specs.Meaning.{locals-of}
+use Rattle.entries.specs.Meaning.{locals-of}
 use Rattle.references.specs.Meaning.{reference, refers, references-of, reference-at}
 use Rattle.references.specs.declared.Reference.{Reference}
 use Rattle.references.proofs.Keeping.{length-references}

@@ -6,7 +6,7 @@ use mathlib.Core.Path.{_≡_}
 use lib.ListN.{length, drop}
 use Rattle.rules.specs.Locals.{LocalDefinition}
 use Rattle.rules.specs.Settling.{Reference, Round, Loop, one-round, Settled, settled}
-use Rattle.locals.specs.Meaning.{locals-of}
+use Rattle.entries.specs.Meaning.{locals-of}
 use Rattle.references.specs.Meaning.{reference, references-of}
 
 -- the references of the entries from `from` up to `to`

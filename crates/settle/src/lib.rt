@@ -10,11 +10,11 @@ pub fn propagate_analysis(locals: &mut [u32], user: LocalId, used: LocalId) -> b
     requires { ⌜ (16 * (user .0) + 16 ≤ length (now locals)) × (16 * (used .0) + 16 ≤ length (now locals)) ⌝ }
     ensures { λ r. ⌜ Propagates propagate-analysis (now (locals .entry)) (now (locals .exit)) (user .0) (used .0) r ⌝ }
 {
-    let user_def = locals::local_at(locals, user);
-    let used_def = locals::local_at(locals, used);
+    let user_def = entries::local_at(locals, user);
+    let used_def = entries::local_at(locals, used);
     let tainted = user_def.analysis.taint_by(used_def.analysis);
     let analysis = tainted.depend_on_local(used_def.defined_at_depth);
-    locals::put_local(locals, user, locals::with_analysis(user_def, analysis));
+    entries::put_local(locals, user, locals::with_analysis(user_def, analysis));
     !analysis.same(user_def.analysis)
 }
 

@@ -6,7 +6,7 @@ use Rattle.rules.specs.Outcome.{Outcome, ok, refuse}
 use Rattle.rules.specs.Records.{Span}
 use Rattle.rules.specs.State as rules
 use Rattle.depths.specs.Meaning.{result}
-use Rattle.locals.specs.Meaning.{locals-of}
+use Rattle.entries.specs.Meaning.{locals-of}
 use Rattle.references.specs.Meaning.{references-of}
 use Rattle.frames.specs.Meaning.{number}
 use Rattle.resolving.specs.Meaning.{frames-of}

@@ -13,7 +13,7 @@ use Rattle.rules.specs.Outcome.{ok, _>>=_, need}
 use Rattle.rules.specs.Frames.{new-frame, top, beneath}
 use Rattle.rules.specs.State as rules-state
 use Rattle.rules.specs.Writing as rules-writing
-use Rattle.locals.proofs.Laws.{length-locals}
+use Rattle.entries.proofs.Laws.{length-locals}
 use Rattle.frames.specs.Meaning.{number}
 use Rattle.resolving.specs.Meaning.{frame-of, frames-of}
 use Rattle.resolving.specs.Answers.{Opened}

@@ -1,5 +1,5 @@
 -- `and_place` puts the place behind a step's state. Assumes nothing.
-use Rattle.closing.proofs.Recording.{placed-to, placed-nowhere}
+use Rattle.closing.proofs.Behind.{placed-to, placed-nowhere}
 use borrow.Author.Needs.{needs}
 use Rattle.closing.proofs.and_place.Statement.{statement}
 use Rattle.closing.proofs.and_place.Tie as tie

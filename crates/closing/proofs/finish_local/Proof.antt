@@ -1,5 +1,5 @@
 -- `finish_local` is the rules' end of a frame and the record of the local. Assumes nothing.
-use Rattle.closing.proofs.Recording.{local-finished, local-refused}
+use Rattle.closing.proofs.Behind.{local-finished, local-refused}
 use borrow.Author.Needs.{needs}
 use Rattle.closing.proofs.finish_local.Statement.{statement}
 use Rattle.closing.proofs.finish_local.Tie as tie

@@ -1,5 +1,5 @@
 -- `finish_object` is the rules' end of a frame and the record of the object. Assumes nothing.
-use Rattle.closing.proofs.Recording.{object-finished, object-refused}
+use Rattle.closing.proofs.Behind.{object-finished, object-refused}
 use borrow.Author.Needs.{needs}
 use Rattle.closing.proofs.finish_object.Statement.{statement}
 use Rattle.closing.proofs.finish_object.Tie as tie

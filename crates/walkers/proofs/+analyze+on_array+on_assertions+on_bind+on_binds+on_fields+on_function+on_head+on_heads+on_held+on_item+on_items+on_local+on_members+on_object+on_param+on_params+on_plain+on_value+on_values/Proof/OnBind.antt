@@ -17,8 +17,8 @@ use Rattle.walkers.proofs.analyze.Reads as analyze
 use Rattle.walkers.proofs.on_bind.Reads as on-bind
 use Rattle.walkers.proofs.+analyze+on_array+on_assertions+on_bind+on_binds+on_fields+on_function+on_head+on_heads+on_held+on_item+on_items+on_local+on_members+on_object+on_param+on_params+on_plain+on_value+on_values.Lts-on_bind as on-bind-lts
 use Rattle.keeping.proofs.close_spec.Reads as close-spec-reads
-use Rattle.opening.proofs.bind_naming.Reads as bind-naming-reads
 use Rattle.opening.proofs.open_value.Reads as open-value-reads
+use Rattle.placing.proofs.bind_naming.Reads as bind-naming-reads
 use Rattle.walkers.proofs.no_spec.Reads as no-spec-reads
 use Rattle.walkers.proofs.no_value.Reads as no-value-reads
 use Rattle.walkers.proofs.+analyze+on_array+on_assertions+on_bind+on_binds+on_fields+on_function+on_head+on_heads+on_held+on_item+on_items+on_local+on_members+on_object+on_param+on_params+on_plain+on_value+on_values.Proof.Measures.{analyze-below, on-bind-at}

@@ -21,10 +21,10 @@ use Rattle.walkers.proofs.on_function.Reads as on-function
 use Rattle.walkers.proofs.+analyze+on_array+on_assertions+on_bind+on_binds+on_fields+on_function+on_head+on_heads+on_held+on_item+on_items+on_local+on_members+on_object+on_param+on_params+on_plain+on_value+on_values.Lts-on_function as on-function-lts
 use Rattle.walkers.proofs.on_params.Reads as on-params
 use Rattle.closing.proofs.finish_function.Reads as finish-function-reads
-use Rattle.closing.proofs.settle_frame.Reads as settle-frame-reads
+use Rattle.judging.proofs.settle_frame.Reads as settle-frame-reads
 use Rattle.opening.proofs.begin_function.Reads as begin-function-reads
-use Rattle.opening.proofs.deeper.Reads as deeper-reads
 use Rattle.packed.proofs.number_at.Reads as number-at-reads
+use Rattle.placing.proofs.deeper.Reads as deeper-reads
 use Rattle.walkers.proofs.first_defaults.Reads as first-defaults-reads
 use Rattle.walkers.proofs.not_kept.Reads as not-kept-reads
 use Rattle.walkers.proofs.+analyze+on_array+on_assertions+on_bind+on_binds+on_fields+on_function+on_head+on_heads+on_held+on_item+on_items+on_local+on_members+on_object+on_param+on_params+on_plain+on_value+on_values.Proof.Measures.{analyze-below, on-function-at, on-params-below}

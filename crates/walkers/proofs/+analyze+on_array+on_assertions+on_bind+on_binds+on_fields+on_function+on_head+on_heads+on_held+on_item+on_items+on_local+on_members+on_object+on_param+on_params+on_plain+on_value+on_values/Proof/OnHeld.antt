@@ -18,7 +18,7 @@ use Rattle.joins.proofs.Returns.{held-first-stopped, held-one-ended, held-secon
 use Rattle.walkers.proofs.analyze.Reads as analyze
 use Rattle.walkers.proofs.on_held.Reads as on-held
 use Rattle.walkers.proofs.+analyze+on_array+on_assertions+on_bind+on_binds+on_fields+on_function+on_head+on_heads+on_held+on_item+on_items+on_local+on_members+on_object+on_param+on_params+on_plain+on_value+on_values.Lts-on_held as on-held-lts
-use Rattle.atoms.proofs.copy_record.Reads as copy-record-reads
+use Rattle.copying.proofs.copy_record.Reads as copy-record-reads
 use Rattle.marks.proofs.children.Reads as children-reads
 use Rattle.walkers.proofs.+analyze+on_array+on_assertions+on_bind+on_binds+on_fields+on_function+on_head+on_heads+on_held+on_item+on_items+on_local+on_members+on_object+on_param+on_params+on_plain+on_value+on_values.Proof.Measures.{analyze-below, on-held-at}
 

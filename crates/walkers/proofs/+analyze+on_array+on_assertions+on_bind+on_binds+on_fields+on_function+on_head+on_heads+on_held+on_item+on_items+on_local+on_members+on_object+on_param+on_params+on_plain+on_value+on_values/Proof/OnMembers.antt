@@ -10,7 +10,7 @@ use Rattle.runs.proofs.Reading.{expr-level}
 use Rattle.runs.proofs.Expressions.{object-size}
 use Rattle.state.specs.Seen.{buffers, stack}
 use Rattle.state.specs.Walks.{place-of}
-use Rattle.opening.proofs.Laws.{outermost-so}
+use Rattle.placing.proofs.Laws.{outermost-so}
 use Rattle.joins.proofs.Joining.{unkept, kept-fit}
 use Rattle.joins.proofs.Readiness.{ready-on}
 use Rattle.joins.proofs.Onward.{ready-object, ready-settled}
@@ -22,12 +22,12 @@ use Rattle.walkers.proofs.+analyze+on_array+on_assertions+on_bind+on_bi
 use Rattle.walkers.proofs.on_binds.Reads as on-binds
 use Rattle.walkers.proofs.on_fields.Reads as on-fields
 use Rattle.closing.proofs.finish_object.Reads as finish-object-reads
-use Rattle.closing.proofs.settle_frame.Reads as settle-frame-reads
+use Rattle.distinct.proofs.is_static.Reads as is-static-reads
+use Rattle.judging.proofs.settle_frame.Reads as settle-frame-reads
 use Rattle.opening.proofs.begin_object.Reads as begin-object-reads
-use Rattle.opening.proofs.deeper.Reads as deeper-reads
-use Rattle.opening.proofs.in_object.Reads as in-object-reads
-use Rattle.opening.proofs.is_static.Reads as is-static-reads
 use Rattle.packed.proofs.number_at.Reads as number-at-reads
+use Rattle.placing.proofs.deeper.Reads as deeper-reads
+use Rattle.placing.proofs.in_object.Reads as in-object-reads
 use Rattle.walkers.proofs.not_kept.Reads as not-kept-reads
 use Rattle.walkers.proofs.+analyze+on_array+on_assertions+on_bind+on_binds+on_fields+on_function+on_head+on_heads+on_held+on_item+on_items+on_local+on_members+on_object+on_param+on_params+on_plain+on_value+on_values.Proof.Measures.{on-members-at, on-binds-below, on-fields-below}
 

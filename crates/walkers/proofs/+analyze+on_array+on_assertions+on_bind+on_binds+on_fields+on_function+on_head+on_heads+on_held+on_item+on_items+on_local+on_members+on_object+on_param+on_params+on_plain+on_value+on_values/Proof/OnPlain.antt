@@ -16,7 +16,7 @@ use Rattle.joins.proofs.Returns.{plain-stopped, plain-ended}
 use Rattle.walkers.proofs.on_items.Reads as on-items
 use Rattle.walkers.proofs.on_plain.Reads as on-plain
 use Rattle.walkers.proofs.+analyze+on_array+on_assertions+on_bind+on_binds+on_fields+on_function+on_head+on_heads+on_held+on_item+on_items+on_local+on_members+on_object+on_param+on_params+on_plain+on_value+on_values.Lts-on_plain as on-plain-lts
-use Rattle.atoms.proofs.copy_record.Reads as copy-record-reads
+use Rattle.copying.proofs.copy_record.Reads as copy-record-reads
 use Rattle.marks.proofs.children.Reads as children-reads
 use Rattle.marks.proofs.size_of.Reads as size-of-reads
 use Rattle.walkers.proofs.+analyze+on_array+on_assertions+on_bind+on_binds+on_fields+on_function+on_head+on_heads+on_held+on_item+on_items+on_local+on_members+on_object+on_param+on_params+on_plain+on_value+on_values.Proof.Measures.{on-items-below, on-plain-at}

@@ -1,0 +1,62 @@
+// Whether an object is static: no head is computed, and the names are distinct.
+ghost use mathlib.Core.Path.{_≡_};
+ghost use Prim.Native.Nat.{_+_, _*_, _≤_};
+ghost use lib.ListN.{length};
+ghost use Rattle.rules.specs.Walk.{is-among};
+ghost use Rattle.distinct.specs.Answers.{Heads-there, IsStatic, names-before, NoneAbove};
+use packed::number_at;
+
+// Whether the fixed name is that of one of the first n heads, which have fixed names too.
+fn is_repeated(tree: &[u8], at: usize, n: usize, name: u32) -> bool
+    requires { ⌜ at + 26 * n ≤ length (now tree) ⌝ }
+    ensures { λ r. ⌜ r ≡ is-among name (names-before (now (tree .entry)) at n) ⌝ }
+{
+    let mut left = n;
+    while 0 < left {
+        left -= 1;
+        if number_at(tree, at + 26 * left + 6) == name {
+            return true;
+        }
+    }
+    false
+}
+
+// The same where no name of the first n is above `highest`: a name that is above needs no search.
+fn is_met(tree: &[u8], at: usize, n: usize, name: u32, highest: u32) -> bool
+    requires { ⌜ (at + 26 * n ≤ length (now tree)) × (NoneAbove (now tree) at n highest) ⌝ }
+    ensures { λ r. ⌜ r ≡ is-among name (names-before (now (tree .entry)) at n) ⌝ }
+{
+    if highest < name {
+        return false;
+    }
+    is_repeated(tree, at, n, name)
+}
+
+fn higher(a: u32, b: u32) -> u32
+    ensures { λ r. ⌜ (a ≤ r) × (b ≤ r) ⌝ }
+{
+    if a < b { b } else { a }
+}
+
+// Whether no head of n is computed and their names all differ.
+pub fn is_static(tree: &[u8], at: usize, n: u32) -> bool
+    requires { ⌜ Heads-there (now tree) n at ⌝ }
+    ensures { λ r. ⌜ IsStatic r (now (tree .entry)) at n ⌝ }
+{
+    let mut p = at;
+    let mut highest: u32 = 0;
+    let mut i: u32 = 0;
+    while i < n {
+        if number_at(tree, p + 2) != 0 {
+            return false;
+        }
+        let name = number_at(tree, p + 6);
+        if is_met(tree, at, i as usize, name, highest) {
+            return false;
+        }
+        highest = higher(highest, name);
+        p += 26;
+        i += 1;
+    }
+    true
+}

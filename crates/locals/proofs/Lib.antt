@@ -1,4 +1,0 @@
--- What the proofs of several functions use.
-pub mod Laws
-pub mod Fours
-pub mod Finding
