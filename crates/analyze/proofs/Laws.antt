@@ -1,8 +1,7 @@
 -- From what a run is by the rules to what the parts of the call state, and from the call to what a caller in C is told. Assumes nothing.
 use Prim.Native.Nat.{ℕ}
-use mathlib.Core.Bool.{Bool, true, false, not, false≢true}
 use mathlib.Core.List.{List, [], _∷_}
-use mathlib.Core.Path.{_≡_, refl, sym, _∙_, ap, subst}
+use mathlib.Core.Path.{_≡_, sym, _∙_, ap, subst}
 use Rattle.rules.specs.Outcome.{ok, refuse}
 use Rattle.rules.specs.Numbers.{bit}
 use Rattle.rules.specs.Call as rules
@@ -47,13 +46,3 @@ pub nine-numbers : (r : AnalysisReport) {e : ℕ} → e ≡ bit (r .errored)
     ≡ report-numbers (report-meaning r)
 unfolding report-numbers report-meaning
 nine-numbers r e = ap (λ (e : ℕ). r .number ∷ r .place ∷ r .«out_length» ∷ r .«diagnostics_length» ∷ e ∷ r .rounds ∷ r .depths .«object_dependent_depth» ∷ r .depths .«local_dependent_depth» ∷ r .depths .«local_dependent_depth_max» ∷ []) e
-
--- a test that was asked the other way round
-
-pub not-true : (t : Bool) → not t ≡ true → t ≡ false
-not-true true e = absurd (false≢true e)
-not-true false e = refl
-
-pub not-false : (t : Bool) → not t ≡ false → t ≡ true
-not-false true e = refl
-not-false false e = absurd (false≢true (sym e))

@@ -1,13 +1,8 @@
 -- What the parts of the call answer and leave, and what a caller in C is told. Assumes nothing.
-use Prim.Native.Nat.{ℕ, _≤_}
-use mathlib.Core.Bool.{true}
+use Prim.Native.Nat.{ℕ}
 use mathlib.Core.List.{List, [], _∷_}
 use mathlib.Core.Path.{_≡_}
-use lib.ListN.{length}
 use Rattle.rules.specs.Numbers.{bit}
-use Rattle.rules.specs.Tree.{Tree}
-use Rattle.rules.specs.FirstWalk.{tree-at}
-use Rattle.rules.specs.Outcome.{ok}
 use Rattle.rules.specs.Call as rules
 use Rattle.state.specs.Seen.{Buffers, seen, Fits}
 use Rattle.state.specs.declared.Limits.{Limits}
@@ -18,13 +13,6 @@ use Rattle.root.specs.Answers.{lent}
 pub record Ran (r : Step) (tree : List ℕ) (b b′ : Buffers) (l : Limits) : Type 0 where
   pub same : seen r b′ ≡ rules.run (lent tree b l)
   pub fit : Fits l r b′
-
--- neither 13 nor 14, and the first walk accepts the tree
-pub record Rooted (tree : List ℕ) (b : Buffers) (l : Limits) : Type 0 where
-  pub tables-fit : rules.tables-fit (lent tree b l) ≡ true
-  pub short : length tree ≤ 16777216
-  pub root : Tree
-  pub there : tree-at tree ≡ ok root
 
 -- For C
 

@@ -4,7 +4,10 @@ ghost use Rattle.rules.specs.Call.{call};
 ghost use Rattle.rules.specs.Numbers.{bit};
 ghost use Rattle.state.specs.Seen.{buffers};
 ghost use Rattle.root.specs.Answers.{lent, left};
-ghost use Rattle.analyze.specs.Answers.{Ran, Rooted, Told, limits-from};
+ghost use Rattle.entering.specs.Answers.{Rooted};
+ghost use Rattle.analyze.specs.Answers.{Ran, Told, limits-from};
+use entering::enter;
+use framing::close_frame;
 use packed::number_at;
 use root::AnalysisReport;
 use root::accepted;
@@ -12,14 +15,11 @@ use root::at_root;
 use root::begin_root;
 use root::clear;
 use root::refused;
-use root::tables_fit;
 use state::Limits;
 use state::Naming;
 use state::Step;
 use state::Walked;
 use tree::Walk;
-use tree::first_walk;
-use writing::close_frame;
 
 // A tree that the first walk accepted: its externals and the root's frame, its expression, the root's shape.
 fn analyze_root(
@@ -62,7 +62,7 @@ fn analyze_root(
     }
 }
 
-// 13, then 14, then the first walk; only a tree that passes is analysed.
+// Only a tree that passes is analysed.
 fn run(
     tree: &[u8],
     out: &mut [u8],
@@ -75,14 +75,8 @@ fn run(
 ) -> Step
     ensures { λ r. ⌜ Ran r (now (tree .entry)) (buffers (now (out .entry)) (now (diagnostics .entry)) (now (locals .entry)) (now (frames .entry)) (now (captures .entry)) (now (references .entry))) (buffers (now (out .exit)) (now (diagnostics .exit)) (now (locals .exit)) (now (frames .exit)) (now (captures .exit)) (now (references .exit))) limits ⌝ }
 {
-    if !tables_fit(locals, frames, captures, references, limits) {
-        return Step::Refused(13, 0);
-    }
-    if 16777216 < tree.len() {
-        return Step::Refused(14, 0);
-    }
-    let w = first_walk(tree);
-    match w {
+    let entered = enter(tree, locals, frames, captures, references, limits);
+    match entered {
         Walk::Past(_) => analyze_root(
             tree,
             out,

@@ -1,3 +1,2 @@
 -- What the proofs share.
-pub mod Laws
 pub mod Using

@@ -35,10 +35,11 @@ use Rattle.state.specs.declared.Walked.{Walked}
 use Rattle.touching.specs.Answers.{TouchedLocal, TouchedObject}
 use Rattle.using.specs.Answers.{SlotEmitted}
 use Rattle.writing.specs.Answers.{Emitted, BadPlace}
-use Rattle.atoms.specs.Answers.{behind, identity-id, object-used, identity-step, variable-step, name-step, UsedObject, UsedLocal, SlotLeft, StepMade, Left, Uses, NameAnalyzed}
+use Rattle.emitting.specs.Answers.{behind}
+use Rattle.atoms.specs.Answers.{identity-id, object-used, identity-step, variable-step, name-step, UsedObject, UsedLocal, SlotLeft, StepMade, Left, Uses, NameAnalyzed}
 use Rattle.atoms.specs.declared.Used.{Used}
 use Rattle.atoms.specs.declared.Used.the-variants.{Slot, Done}
-use Rattle.atoms.proofs.Laws.{emitted-steps, bad-steps, walks-behind}
+use Rattle.emitting.proofs.Laws.{emitted-steps, bad-steps, walks-behind}
 
 -- The state with another dependence and other marks of the present object, which fits where it did
 

@@ -9,23 +9,16 @@ use Rattle.rules.specs.Numbers.{number-at, code, ID}
 use Rattle.rules.specs.State as rules
 use Rattle.rules.specs.Scoping as scoping
 use Rattle.rules.specs.Walk as walk
-use Rattle.runs.specs.Steps.{and-place, span-at, import-steps, head-written}
+use Rattle.runs.specs.Steps.{and-place, span-at}
 use Rattle.state.specs.Seen.{limits-of, buffers, stack, Fit}
 use Rattle.state.specs.Walks.{place-of, Walks, Steps}
 use Rattle.state.specs.declared.Place.{Place}
 use Rattle.state.specs.declared.AnalysisStack.{AnalysisStack}
 use Rattle.state.specs.declared.Limits.{Limits}
 use Rattle.state.specs.declared.Step.{Step}
-use Rattle.state.specs.declared.Step.the-variants.{Ok, Refused}
 use Rattle.state.specs.declared.Walked.{Walked}
-use Rattle.state.specs.declared.Walked.the-variants as walked-as
 use Rattle.atoms.specs.declared.Used.{Used}
 use Rattle.atoms.specs.declared.Used.the-variants.{Slot, Done}
-
--- a step's answer, and the place behind
-unfoldable pub behind : ℕ → Step → Walked
-behind next (Ok st) = walked-as.To st next
-behind next (Refused number place) = walked-as.Refused number place
 
 -- self, super and $
 
@@ -102,17 +95,3 @@ pub record NameAnalyzed (r : Walked) (tree out out′ diagnostics diagnostics′
       → Fit limits (buffers out diagnostics locals frames captures references) st
       → Walks r limits (buffers out diagnostics locals frames captures references) (buffers out′ diagnostics′ locals′ frames captures′ references) st
       (λ limits st. and-place (at + 10) (name-step limits tree mark at (place-of here) st))
-
--- Imports and heads
-
-pub record ImportAnalyzed (r : Walked) (tree out out′ diagnostics diagnostics′ : List ℕ) (st : AnalysisStack) (at : ℕ) : Type 0 where
-  pub walks : (l : Limits) (locals frames captures references : List ℕ)
-      → Fit l (buffers out diagnostics locals frames captures references) st
-      → Walks r l (buffers out diagnostics locals frames captures references) (buffers out′ diagnostics′ locals frames captures references) st
-      (λ limits st. import-steps limits tree at st)
-
-pub record HeadEmitted (r : Walked) (tree out out′ : List ℕ) (st : AnalysisStack) (at next : ℕ) : Type 0 where
-  pub walks : (l : Limits) (diagnostics locals frames captures references : List ℕ)
-      → Fit l (buffers out diagnostics locals frames captures references) st
-      → Walks r l (buffers out diagnostics locals frames captures references) (buffers out′ diagnostics locals frames captures references) st
-      (λ limits st. head-written limits tree at next st)

@@ -22,18 +22,7 @@ use Rattle.writing.specs.Answers.{Emitted}
 use Rattle.writing.proofs.Laws.{limits-same}
 use Rattle.recording.specs.Answers.{outer-use, leave-object, ObjectLeft}
 use Rattle.recording.proofs.Recording.{emit-steps}
-use Rattle.closing.specs.Answers.{AndPlace}
-
--- The place behind
-
-module _ {step : Step} (next : ℕ) where
-  pub placed-to : {st : AnalysisStack} → step ≡ Ok st → AndPlace (walked-as.To st next) step next
-  unfolding and-place _>>=_
-  placed-to is = rw is record { same = λ b. refl; fit = λ l b f. f }
-
-  pub placed-nowhere : {why p : ℕ} → step ≡ Refused why p → AndPlace (walked-as.Refused why p) step next
-  unfolding and-place _>>=_
-  placed-nowhere is = rw is record { same = λ b. refl; fit = λ l b f. tt }
+use Rattle.emitting.proofs.Laws.{Placed}
 
 -- A record behind a step
 
@@ -43,7 +32,7 @@ Stepping = rules.Limits → rules.AnalysisStack → Outcome rules.AnalysisStack
 module _ (first : Stepping) (l : Limits) (b b₁ : Buffers) (st : AnalysisStack) {r₁ : Step} (steps : Steps r₁ l b b₁ st first) where
   pub walks-on : (then : Stepping) (b₂ : Buffers) {st₁ : AnalysisStack} {r : Step} {w : Walked} (next : ℕ) → r₁ ≡ Ok st₁
       → limits-of l (b₁ .out) (b₁ .diagnostics) ≡ limits-of l (b .out) (b .diagnostics)
-      → (Fit l b₁ st₁ → Steps r l b₁ b₂ st₁ then) → AndPlace w r next
+      → (Fit l b₁ st₁ → Steps r l b₁ b₂ st₁ then) → Placed w r next
       → Walks w l b b₂ st (λ limits S. first limits S >>= λ T. and-place next (then limits T))
   unfolding _>>=_
   walks-on then b₂ {st₁} {r} {w} next is same-limits after placed =
@@ -98,7 +87,7 @@ module _ {l : Limits} {out out₁ diagnostics diagnostics₁ locals locals₁ fr
     pub same-limits : limits-of l out₁ diagnostics₁ ≡ limits-of l out diagnostics
     same-limits = limits-same l out out₁ diagnostics diagnostics₁ size size′
 
-    pub local-finished : {out₂ : List ℕ} {r : Step} {w : Walked} → Emitted r out₁ out₂ st₁ place (0x4c ∷ 0x4f ∷ []) (kept ∷ []) → AndPlace w r next
+    pub local-finished : {out₂ : List ℕ} {r : Step} {w : Walked} → Emitted r out₁ out₂ st₁ place (0x4c ∷ 0x4f ∷ []) (kept ∷ []) → Placed w r next
         → Walks w l b (to out₂) st (λ limits. finished-local limits place kept before next)
     unfolding finished-local mark-bytes code
     local-finished {out₂} emitted placed =
@@ -107,7 +96,7 @@ module _ {l : Limits} {out out₁ diagnostics diagnostics₁ locals locals₁ fr
         (emit-steps LO l diagnostics₁ locals₁ frames captures₁ references refl emitted) placed
 
     pub object-finished : {out₂ : List ℕ} {r : Step} {w : Walked} (outermost self-used super-used : Bool) (assertions values : ℕ) (is-static : Bool)
-        → ObjectLeft r out₁ out₂ st₁ place outermost self-used super-used kept assertions values is-static → AndPlace w r next
+        → ObjectLeft r out₁ out₂ st₁ place outermost self-used super-used kept assertions values is-static → Placed w r next
         → (d : Bool) → Walks w l b (to out₂) st (λ limits. finished-object limits place outermost (outer-use self-used super-used d) kept before assertions values is-static next)
     unfolding finished-object leave-object
     object-finished {out₂} outermost self-used super-used assertions values is-static left placed d =

@@ -23,7 +23,7 @@ use Rattle.state.specs.declared.AnalysisStack.{AnalysisStack}
 use Rattle.state.specs.declared.Limits.{Limits}
 use Rattle.state.specs.declared.Step.{Step}
 use Rattle.state.specs.declared.Step.the-variants.{Ok, Refused}
-use Rattle.writing.specs.Answers.{FrameClosed}
+use Rattle.framing.specs.Answers.{FrameClosed}
 use Rattle.writing.proofs.Laws.{limits-same}
 use Rattle.judging.specs.Answers.{SettledFrame, judge-frame, JudgedAll}
 use Rattle.closing.specs.Answers.{forget-names, ForgottenNames}

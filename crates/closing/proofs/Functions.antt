@@ -26,7 +26,7 @@ use Rattle.state.specs.declared.Walked.{Walked}
 use Rattle.state.specs.declared.Walked.the-variants as walked-as
 use Rattle.writing.proofs.Laws.{limits-same}
 use Rattle.recording.specs.Answers.{FunctionNamed}
-use Rattle.closing.specs.Answers.{AndPlace}
+use Rattle.emitting.proofs.Laws.{Placed}
 use Rattle.closing.proofs.Behind.{walks-on, walks-nowhere}
 
 -- Six bytes that are the record of slot 0
@@ -174,7 +174,7 @@ module _ {l : Limits} {out out₁ diagnostics diagnostics₁ locals locals₁ fr
 
   pub function-finished : {st₁ : AnalysisStack} {out₂ diagnostics₂ : List ℕ} {r : Step} {w : Walked} → r₁ ≡ Ok st₁
       → length out₁ ≡ length out → length diagnostics₁ ≡ length diagnostics
-      → FunctionNamed r out₁ out₂ diagnostics₁ diagnostics₂ st₁ place span start kept naming gives → AndPlace w r next
+      → FunctionNamed r out₁ out₂ diagnostics₁ diagnostics₂ st₁ place span start kept naming gives → Placed w r next
       → Walks w l b (buffers out₂ diagnostics₂ locals₁ frames captures₁ references) st
       (λ limits. finished-function limits place (span-of span) start body-start kept before defaults (naming-of naming) next)
   function-finished {st₁} {out₂} {diagnostics₂} is size size′ named placed =

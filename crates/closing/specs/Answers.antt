@@ -3,13 +3,12 @@
 use Prim.Native.Nat.{ℕ, _≤_}
 use mathlib.Core.Bool.{Bool}
 use mathlib.Core.List.{List}
-use mathlib.Core.Path.{_≡_}
 use lib.ListN.{take}
 use Rattle.rules.specs.State as rules
 use Rattle.rules.specs.Scoping as scoping
-use Rattle.runs.specs.Steps.{and-place, finished-local, finished-function, finished-object}
-use Rattle.state.specs.Seen.{span-of, Buffers, buffers, seen, Fit, Fits}
-use Rattle.state.specs.Walks.{naming-of, walked, Walked-fits, Walks, Steps, Becomes}
+use Rattle.runs.specs.Steps.{finished-local, finished-function, finished-object}
+use Rattle.state.specs.Seen.{span-of, buffers, Fit}
+use Rattle.state.specs.Walks.{naming-of, Walks, Steps, Becomes}
 use Rattle.state.specs.declared.AnalysisStack.{AnalysisStack}
 use Rattle.state.specs.declared.Limits.{Limits}
 use Rattle.state.specs.declared.Step.{Step}
@@ -46,11 +45,6 @@ abbrev pub LocalFinished : Walked → (out out′ diagnostics diagnostics′ loc
 LocalFinished r out out′ diagnostics diagnostics′ locals locals′ frames captures captures′ references l st place kept before next =
     Walks r l (buffers out diagnostics locals frames captures references) (buffers out′ diagnostics′ locals′ frames captures′ references) st
     (λ limits. finished-local limits place kept before next)
-
--- the place behind a step's state
-pub record AndPlace (r : Walked) (step : Step) (next : ℕ) : Type 0 where
-  pub same : (b : Buffers) → walked r b ≡ and-place next (seen step b)
-  pub fit : (l : Limits) (b : Buffers) → Fits l step b → Walked-fits l r b
 
 -- whatever the object around has met of `$`
 abbrev pub ObjectFinished : Walked → (out out′ diagnostics diagnostics′ locals locals′ frames captures captures′ references : List ℕ) → Limits → AnalysisStack

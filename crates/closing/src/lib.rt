@@ -5,7 +5,9 @@ ghost use Prim.Native.Nat.{_+_, _*_, _≤_};
 ghost use lib.ListN.{length, take, drop};
 ghost use Rattle.rules.specs.Numbers.{LS, same-bytes, record-bytes};
 ghost use Rattle.runs.specs.Steps.{gives-argument};
-ghost use Rattle.closing.specs.Answers.{ForgottenNames, Finishable, FrameFinished, LocalFinished, ObjectFinished, FunctionFinished, AndPlace};
+ghost use Rattle.closing.specs.Answers.{ForgottenNames, Finishable, FrameFinished, LocalFinished, ObjectFinished, FunctionFinished};
+use emitting::behind;
+use framing::close_frame;
 use judging::judge_all;
 use judging::settle_frame_use;
 use naming::first_in_frame;
@@ -18,7 +20,6 @@ use state::Limits;
 use state::Naming;
 use state::Step;
 use state::Walked;
-use writing::close_frame;
 use writing::emit;
 
 // The names of the frame on top go, and the references kept since there were `before` of them.
@@ -66,16 +67,6 @@ pub fn finish_frame(
     }
 }
 
-// A step's state and the place behind.
-fn and_place(step: Step, next: usize) -> Walked
-    ensures { λ r. ⌜ AndPlace r step next ⌝ }
-{
-    match step {
-        Step::Ok(after) => Walked::To(after, next),
-        Step::Refused(why, place) => Walked::Refused(why, place),
-    }
-}
-
 // The end of a local's frame, and its record.
 pub fn finish_local(
     out: &mut [u8],
@@ -108,7 +99,7 @@ pub fn finish_local(
         before,
     );
     match finished {
-        Step::Ok(after) => and_place(emit(out, after, at, b"LO", &[kept]), next),
+        Step::Ok(after) => behind(emit(out, after, at, b"LO", &[kept]), next),
         Step::Refused(why, place) => Walked::Refused(why, place),
     }
 }
@@ -145,7 +136,7 @@ pub fn finish_object(
         before,
     );
     match finished {
-        Step::Ok(after) => and_place(leave_object(out, after, at, object), next),
+        Step::Ok(after) => behind(leave_object(out, after, at, object), next),
         Step::Refused(why, place) => Walked::Refused(why, place),
     }
 }
@@ -229,7 +220,7 @@ pub fn finish_function(
     match finished {
         Step::Ok(after) => {
             let named = name_function(out, diagnostics, after, at, function, naming, gives);
-            and_place(named, next)
+            behind(named, next)
         }
         Step::Refused(why, place) => Walked::Refused(why, place),
     }

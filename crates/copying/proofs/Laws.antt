@@ -31,7 +31,7 @@ use Rattle.state.specs.declared.Limits.{Limits}
 use Rattle.state.specs.declared.Walked.the-variants as walked-as
 use Rattle.writing.specs.Answers.{Behind}
 use Rattle.writing.proofs.Laws.{put-behind, out-to, emit-wrote, emit-full}
-use Rattle.writing.proofs.Closing.{behind-more}
+use Rattle.writing.proofs.Laws.{behind-more}
 use Rattle.copying.specs.Answers.{RecordCopied, ConstantsEmitted, Numbers}
 
 -- Bytes one after another

@@ -3,26 +3,16 @@ ghost use mathlib.Core.Path.{_≡_};
 ghost use Prim.Native.Nat.{_+_, _*_, _≤_, _<_};
 ghost use lib.ListN.{length, take, drop};
 ghost use lib.Seq.{sets};
-ghost use lib.Dec.{leb};
 ghost use Rattle.rules.specs.Numbers.{numbers-bytes, code, code-at};
 ghost use Rattle.rules.specs.Records.{size-of};
 ghost use Rattle.marks.specs.Marks.{mark-of};
 ghost use Rattle.runs.specs.Steps.{values-from};
 ghost use Rattle.copying.specs.Answers.{RecordCopied, ConstantsEmitted, Numbers};
+use marks::has_room;
 use marks::size_of;
 use putting::put_record;
 use state::AnalysisStack;
 use state::Walked;
-
-// Whether n bytes more have room behind those that are used.
-fn has_room(out: &[u8], used: usize, n: usize) -> bool
-    ensures { λ r. ⌜ r ≡ leb (used + n) (length (now (out .entry))) ⌝ }
-{
-    if out.len() < n {
-        return false;
-    }
-    used <= out.len() - n
-}
 
 // Four bytes of the tree at a place of the output: all are read first, so that they are moved as one.
 fn copy_four(out: &mut [u8], to: usize, tree: &[u8], from: usize)

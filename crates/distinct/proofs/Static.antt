@@ -2,7 +2,7 @@
 use Prim.Native.Nat.{ℕ, zero, suc, _+_, _*_, _-_, _≤_, _<_}
 use mathlib.Core.Bool.{Bool, true, false}
 use mathlib.Core.List.{List, [], _∷_}
-use mathlib.Core.Path.{_≡_, refl, sym, ap, _∙_}
+use mathlib.Core.Path.{_≡_, refl, sym, ap, _∙_, subst}
 use native.Mathlib.Decide.{decLt}
 use native.Mathlib.Omega.{arith}
 use lib.ListN.{length}
@@ -12,7 +12,7 @@ use Rattle.rules.specs.Numbers.{number-at, same-name}
 use Rattle.rules.specs.Tree.{Heads}
 use Rattle.rules.specs.Walk.{is-among, is-static}
 use Rattle.runs.specs.Run.{heads-at}
-use Rattle.distinct.specs.Answers.{names-before, NoneAbove, Heads-there, IsStatic}
+use Rattle.distinct.specs.Answers.{names-before, NoneAbove, flag-of, Flagged, NowFlagged, Heads-there, IsStatic}
 use Rattle.distinct.proofs.Heads.{first-head, no-head, FirstHead}
 
 module _ (s : List ℕ) (at : ℕ) where
@@ -48,29 +48,56 @@ module _ (s : List ℕ) (at : ℕ) where
       unfolding same-name choose
       among-next ne = record { within = let w = A .within in omega (arith, w); same = (rw (ne-eqb name x (λ e. ne (sym e))) at among-split) }
 
-  -- A name above all of the first n
+  -- A name that is none of the first n
+
+  none-equal : (n : ℕ) {name : ℕ} → ((k : ℕ) → k < n → (name ≡ number-at s (at + 26 * k + 6) → ⊥)) → false ≡ is-among name (names-before s at n)
+  unfolding names-before is-among same-name choose
+  none-equal zero differ = refl
+  none-equal (suc n) {name} differ =
+      rw (ne-eqb name (number-at s (at + 26 * n + 6)) (differ n (omega arith))) (none-equal n (λ k lt. differ k (omega (arith, lt))))
+
+  every-next : (P : ℕ → Type 0) (i : ℕ) → ((k : ℕ) → k < i → P k) → P i → (k : ℕ) → k < i + 1 → P k
+  every-next P i all here k lt = by (decLt k i)
+    where
+      by : Dec (k < i) → P k
+      by (yes h) = all k h
+      by (no h) = let e : i ≡ k = omega (arith, lt, h) in subst P e here
+
+  -- it is above all of them
 
   pub above-begin : (highest : ℕ) → NoneAbove s at 0 highest
   above-begin highest = record { below = λ k h. omega (arith, h) }
 
   pub above-none : (n : ℕ) {highest name : ℕ} → NoneAbove s at n highest → highest < name → false ≡ is-among name (names-before s at n)
-  unfolding names-before is-among same-name choose
-  above-none zero none h = refl
-  above-none (suc n) {highest} {name} none h =
-      let last = none .below n (omega arith) in
-      let fewer : NoneAbove s at n highest = record { below = λ k lt. none .below k (omega (arith, lt)) } in
-      rw (ne-eqb name (number-at s (at + 26 * n + 6)) (λ e. omega (arith, last, h, e))) (above-none n fewer h)
+  above-none n none h = none-equal n λ k lt e. let below = none .below k lt in omega (arith, below, h, e)
 
   pub above-next : {i highest name more : ℕ} → NoneAbove s at i highest → name ≡ number-at s (at + 26 * i + 6) → (highest ≤ more) × (name ≤ more) → NoneAbove s at (i + 1) more
-  above-next {i} {highest} {name} {more} none is up = record { below = λ k lt. by k (decLt k i) lt }
-    where
-      by : (k : ℕ) → Dec (k < i) → k < i + 1 → number-at s (at + 26 * k + 6) ≤ more
-      by k (yes h) lt = let b = none .below k h in let u = up .0 in omega (arith, b, u)
-      by k (no h) lt =
-          let e : k ≡ i = omega (arith, lt, h) in
-          let u = up .1 in
-          let here : number-at s (at + 26 * k + 6) ≡ name = ap (λ (j : ℕ). number-at s (at + 26 * j + 6)) e ∙ sym is in
-          omega (arith, here, u)
+  above-next {i} {highest} {name} {more} none is up =
+      let higher = up .0 in
+      let own = up .1 in
+      record {
+        below = every-next (λ k. number-at s (at + 26 * k + 6) ≤ more) i
+            (λ k lt. let below = none .below k lt in omega (arith, below, higher))
+            (omega (arith, is, own));
+      }
+
+  -- or it is not flagged, and they are
+
+  pub flagged-begin : {met : List ℕ} → length met ≡ 16 → Flagged s at 0 met
+  flagged-begin size = record { size = size; flags = λ k h. omega (arith, h) }
+
+  pub unflagged-none : (n name : ℕ) {met : List ℕ} {flag : ℕ} → Flagged s at n met → flag ≡ flag-of met name → flag ≡ 0 → false ≡ is-among name (names-before s at n)
+  unflagged-none n name {met} {flag} set is unset = none-equal n λ k lt e.
+      let one : flag-of met name ≡ 1 = ap (λ (x : ℕ). flag-of met x) e ∙ set .flags k lt in
+      omega (arith, one, is, unset)
+
+  pub flagged-next : {i name : ℕ} {met more : List ℕ} → Flagged s at i met → name ≡ number-at s (at + 26 * i + 6) → NowFlagged met more name → Flagged s at (i + 1) more
+  flagged-next {i} {name} {met} {more} set is now = record {
+    size = now .size ∙ set .size;
+    flags = every-next (λ k. flag-of more (number-at s (at + 26 * k + 6)) ≡ 1) i
+        (λ k lt. now .kept _ (set .flags k lt))
+        (ap (λ (x : ℕ). flag-of more x) (sym is) ∙ now .own);
+  }
 
   -- All names
 

@@ -22,7 +22,7 @@ use Rattle.state.specs.declared.AnalysisStack.{AnalysisStack}
 use Rattle.state.specs.declared.Limits.{Limits}
 use Rattle.state.specs.declared.Place.{Place}
 use Rattle.state.specs.declared.Step.{Step}
-use Rattle.writing.specs.Answers.{FrameOpened}
+use Rattle.framing.specs.Answers.{FrameOpened}
 use Rattle.declaring.specs.Answers.{Fitting}
 use Rattle.judging.specs.Answers.{Settleable}
 use Rattle.joins.specs.Ready.{Within, Ready}

@@ -33,7 +33,8 @@ use Rattle.state.specs.declared.Step.{Step}
 use Rattle.state.specs.declared.Step.the-variants.{Ok, Refused}
 use Rattle.state.specs.declared.Specs.{Specs}
 use Rattle.state.specs.declared.Specs.the-variants as specs-as
-use Rattle.writing.specs.Answers.{Emitted, FrameClosed}
+use Rattle.writing.specs.Answers.{Emitted}
+use Rattle.framing.specs.Answers.{FrameClosed}
 use Rattle.writing.proofs.Laws.{limits-same}
 use Rattle.naming.specs.Answers.{FirstInFrame}
 use Rattle.retaining.specs.Answers.{IsKept, SetAnalysis, KeptReferences}

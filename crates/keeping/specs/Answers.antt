@@ -1,4 +1,4 @@
--- What a spec's record says, and what the ends of frames and specs answer and leave, whatever the buffers hold that a step does not touch.
+-- What a spec's record says, and what the ends of specs answer and leave, whatever the buffers hold that a step does not touch.
 -- A primed list is what a step leaves of a buffer. Assumes nothing.
 use Prim.Native.Nat.{ℕ, _+_, _≤_}
 use mathlib.Core.List.{List, [], _∷_}
@@ -9,15 +9,14 @@ use Rattle.rules.specs.Depths as depths
 use Rattle.rules.specs.State as rules
 use Rattle.rules.specs.Writing as writing
 use Rattle.rules.specs.Scoping as scoping
-use Rattle.runs.specs.Steps.{and-place, closed-array, closed-value, closed-assertions, recorded, closed-spec}
+use Rattle.runs.specs.Steps.{recorded, closed-spec}
 use Rattle.depths.specs.Meaning.{result}
 use Rattle.depths.specs.declared.AnalysisResult.{AnalysisResult}
 use Rattle.state.specs.Seen.{Buffers, buffers, stack, seen, limits-of, Fit, Fits}
-use Rattle.state.specs.Walks.{walked, Walked-fits, specs, Specs-fits, Walks, Walks-specs, Becomes}
+use Rattle.state.specs.Walks.{specs, Specs-fits, Walks-specs, Becomes}
 use Rattle.state.specs.declared.AnalysisStack.{AnalysisStack}
 use Rattle.state.specs.declared.Limits.{Limits}
 use Rattle.state.specs.declared.Step.{Step}
-use Rattle.state.specs.declared.Walked.{Walked}
 use Rattle.state.specs.declared.Specs.{Specs}
 use Rattle.state.specs.declared.Specs.the-variants as specs-as
 use Rattle.keeping.specs.declared.Spec.{Spec}
@@ -31,28 +30,6 @@ spec-mark (Param name flag) = PA
 unfoldable pub spec-numbers : Spec → ℕ → List ℕ
 spec-numbers Bind = λ slot. slot ∷ []
 spec-numbers (Param name flag) = λ slot. name ∷ slot ∷ flag ∷ []
-
--- a step's answer, with the place behind
-pub record Placed (r : Walked) (step : Step) (next : ℕ) : Type 0 where
-  pub same : (b : Buffers) → walked r b ≡ and-place next (seen step b)
-  pub fit : (l : Limits) (b : Buffers) → Fits l step b → Walked-fits l r b
-
--- Frames that close
-
-pub record ArrayClosed (r : Walked) (out out′ frames captures captures′ : List ℕ) (st : AnalysisStack) (place n next : ℕ) : Type 0 where
-  pub walks : (l : Limits) (diagnostics locals references : List ℕ) → Fit l (buffers out diagnostics locals frames captures references) st
-      → Walks r l (buffers out diagnostics locals frames captures references) (buffers out′ diagnostics locals frames captures′ references) st
-      (λ limits. closed-array limits place n next)
-
-pub record ValueClosed (r : Walked) (out out′ frames captures captures′ : List ℕ) (st : AnalysisStack) (place next : ℕ) : Type 0 where
-  pub walks : (l : Limits) (diagnostics locals references : List ℕ) → Fit l (buffers out diagnostics locals frames captures references) st
-      → Walks r l (buffers out diagnostics locals frames captures references) (buffers out′ diagnostics locals frames captures′ references) st
-      (λ limits. closed-value limits place next)
-
-pub record AssertionsClosed (r : Walked) (out out′ frames captures captures′ : List ℕ) (st : AnalysisStack) (place next : ℕ) : Type 0 where
-  pub walks : (l : Limits) (diagnostics locals references : List ℕ) → Fit l (buffers out diagnostics locals frames captures references) st
-      → Walks r l (buffers out diagnostics locals frames captures references) (buffers out′ diagnostics locals frames captures′ references) st
-      (λ limits. closed-assertions limits place next)
 
 -- Specs whose values are done
 

@@ -1,11 +1,12 @@
-// What happens when a spec's value is done, and when the frames of arrays, field values and assertions close.
+// What happens when a spec's value is done: it is kept or dropped.
 ghost use mathlib.Core.Path.{_≡_};
 ghost use Prim.Native.Nat.{ℕ, _+_, _*_, _<_, _≤_};
 ghost use lib.ListN.{length};
 ghost use Rattle.resolving.specs.Kept.{Kept};
 ghost use Rattle.frames.specs.Meaning.{number};
-ghost use Rattle.keeping.specs.Answers.{Placed, ArrayClosed, ValueClosed, AssertionsClosed, OuterTainted, SpecDropped, SpecWritten, SpecKept, Counted, SpecRecorded, SpecClosed};
+ghost use Rattle.keeping.specs.Answers.{OuterTainted, SpecDropped, SpecWritten, SpecKept, Counted, SpecRecorded, SpecClosed};
 use depths::AnalysisResult;
+use framing::close_frame;
 use locals::LocalId;
 use naming::first_in_frame;
 use retaining::is_kept;
@@ -15,85 +16,12 @@ use state::AnalysisStack;
 use state::Limits;
 use state::Specs;
 use state::Step;
-use state::Walked;
-use writing::close_frame;
 use writing::emit;
 
 // A bind, or a parameter with its name and whether it has a default.
 pub enum Spec {
     Bind,
     Param(u32, u32),
-}
-
-// A step's answer, with the place behind.
-fn and_place(step: Step, next: usize) -> Walked
-    ensures { λ r. ⌜ Placed r step next ⌝ }
-{
-    match step {
-        Step::Ok(st) => Walked::To(st, next),
-        Step::Refused(why, at) => Walked::Refused(why, at),
-    }
-}
-
-// The shape of an array's frame, and the array's record.
-pub fn close_array(
-    out: &mut [u8],
-    frames: &[u32],
-    captures: &mut [u32],
-    st: AnalysisStack,
-    at: usize,
-    n: u32,
-    next: usize,
-) -> Walked
-    requires { ⌜ Kept (st .frames) (now frames) (st .captures) (now captures) ⌝ }
-    ensures { λ r. ⌜ ArrayClosed r (now (out .entry)) (now (out .exit)) (now (frames .entry)) (now (captures .entry)) (now (captures .exit)) st at n next ⌝ }
-{
-    let closed = close_frame(out, frames, captures, st, at);
-    match closed {
-        Step::Ok(after) => {
-            let written = emit(out, after, at, b"AR", &[n]);
-            and_place(written, next)
-        }
-        Step::Refused(why, place) => Walked::Refused(why, place),
-    }
-}
-
-// The shape of a field value's frame, and the value's record.
-pub fn close_value(
-    out: &mut [u8],
-    frames: &[u32],
-    captures: &mut [u32],
-    st: AnalysisStack,
-    at: usize,
-    next: usize,
-) -> Walked
-    requires { ⌜ Kept (st .frames) (now frames) (st .captures) (now captures) ⌝ }
-    ensures { λ r. ⌜ ValueClosed r (now (out .entry)) (now (out .exit)) (now (frames .entry)) (now (captures .entry)) (now (captures .exit)) st at next ⌝ }
-{
-    let closed = close_frame(out, frames, captures, st, at);
-    match closed {
-        Step::Ok(after) => {
-            let written = emit(out, after, at, b"FV", &[]);
-            and_place(written, next)
-        }
-        Step::Refused(why, place) => Walked::Refused(why, place),
-    }
-}
-
-// The shape of the frame of an object's assertions.
-pub fn close_assertions(
-    out: &mut [u8],
-    frames: &[u32],
-    captures: &mut [u32],
-    st: AnalysisStack,
-    at: usize,
-    next: usize,
-) -> Walked
-    requires { ⌜ Kept (st .frames) (now frames) (st .captures) (now captures) ⌝ }
-    ensures { λ r. ⌜ AssertionsClosed r (now (out .entry)) (now (out .exit)) (now (frames .entry)) (now (captures .entry)) (now (captures .exit)) st at next ⌝ }
-{
-    let closed = close_frame(out, frames, captures, st, at);
-    and_place(closed, next)
 }
 
 // What encloses a value depends on what the value does; `outer` is what that depended on before.

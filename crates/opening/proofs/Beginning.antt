@@ -26,7 +26,7 @@ use Rattle.state.specs.declared.Step.{Step}
 use Rattle.state.specs.declared.Step.the-variants.{Ok, Refused}
 use Rattle.state.specs.declared.Walked.{Walked}
 use Rattle.state.specs.declared.Walked.the-variants as walked-as
-use Rattle.writing.specs.Answers.{FrameOpened}
+use Rattle.framing.specs.Answers.{FrameOpened}
 use Rattle.naming.specs.Answers.{DefinedThis}
 use Rattle.placing.proofs.Laws.{outermost-so}
 use Rattle.declaring.specs.Answers.{Fitting, BindsDefined, ParamsDefined}

@@ -13,7 +13,7 @@ use Rattle.state.specs.Seen.{Buffers, buffers, stack, limits-of, Fit}
 use Rattle.state.specs.declared.AnalysisStack.{AnalysisStack}
 use Rattle.state.specs.declared.Limits.{Limits}
 use Rattle.state.specs.declared.Step.{Step}
-use Rattle.writing.specs.Answers.{FrameOpened}
+use Rattle.framing.specs.Answers.{FrameOpened}
 use Rattle.opening.specs.Answers.{ValueOpened}
 
 -- the state with another dependence

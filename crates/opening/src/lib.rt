@@ -6,13 +6,13 @@ ghost use Rattle.opening.specs.Answers.{Opening, ValueOpened, LocalBegun
 use declaring::define_binds;
 use declaring::define_params;
 use depths::AnalysisResult;
+use framing::open_frame;
 use naming::define_this;
 use state::AnalysisStack;
 use state::Limits;
 use state::Place;
 use state::Step;
 use state::Walked;
-use writing::open_frame;
 
 // The frame of a spec's value, which depends on nothing yet.
 pub fn open_value(frames: &mut [u32], limits: Limits, st: AnalysisStack, at: usize) -> Step

@@ -6,17 +6,17 @@ ghost use Rattle.resolving.specs.Kept.{KeptBelow, Kept};
 ghost use Rattle.resolving.specs.Answers.{Home, HeldBy, Opened, Captured, Resolves, ResolvesToSlot, Closed};
 use captures::Capture;
 use captures::CaptureSlot;
-use captures::Found;
 use captures::LSlot;
 use captures::LocalSlot;
 use captures::capture_at;
-use captures::capture_of;
 use captures::owner_at;
 use captures::put_capture;
 use frames::Frame;
 use frames::frame_at;
 use frames::put_frame;
 use locals::LocalId;
+use logs::Found;
+use logs::capture_of;
 
 // The slot of an id, where the frame defined it.
 pub enum Held {

@@ -26,7 +26,7 @@ use Rattle.state.specs.declared.Step.{Step}
 use Rattle.state.specs.declared.Step.the-variants as step-as
 use Rattle.state.specs.declared.Walked.{Walked}
 use Rattle.state.specs.declared.Walked.the-variants as walked-as
-use Rattle.writing.specs.Answers.{FrameClosed}
+use Rattle.framing.specs.Answers.{FrameClosed}
 use Rattle.joins.proofs.Joining.{Long, limits-kept}
 use Rattle.root.specs.Answers.{report-meaning, ReportsState, Long-tables, BegunRoot, Cleared, lent, left}
 use Rattle.root.specs.declared.AnalysisReport.{AnalysisReport}

@@ -1,12 +1,10 @@
--- Laws of the state before the root's walk, of the report, of the tables' lengths and of what is cleared. Assumes nothing.
-use Prim.Native.Nat.{ℕ, _*_, _-_, _≤_, _<_}
-use mathlib.Core.Bool.{Bool, false, _&&_}
+-- Laws of the state before the root's walk, of the report and of what is cleared. Assumes nothing.
+use Prim.Native.Nat.{ℕ, _-_}
+use mathlib.Core.Bool.{false}
 use mathlib.Core.List.{List, _++_}
 use mathlib.Core.Path.{_≡_, refl, ap, _∙_}
 use native.Mathlib.Omega.{arith}
-use borrow.Author.Tests.{le-leb, lt-leb}
 use lib.ListN.{length, take, replicate}
-use lib.Dec.{leb}
 use lib.Seq.{length-take-le}
 use Rattle.rules.specs.Depths as rules-depths
 use Rattle.rules.specs.State as rules
@@ -19,7 +17,6 @@ use Rattle.references.specs.Meaning.{references-of}
 use Rattle.resolving.specs.Meaning.{frames-of}
 use Rattle.state.specs.Seen.{stack}
 use Rattle.state.specs.declared.AnalysisStack.{AnalysisStack}
-use Rattle.state.specs.declared.Limits.{Limits}
 use Rattle.root.specs.Answers.{report-meaning, ReportsState, EmptyStack}
 use Rattle.root.specs.declared.AnalysisReport.{AnalysisReport}
 
@@ -90,28 +87,6 @@ report-with st = record {
 pub reports : (st : AnalysisStack) → ReportsState (report-with st) st
 unfolding report-meaning call.report-of stack
 reports st = record { same = λ b o d. rw (length-take-le (st .out) (b .out) o, length-take-le (st .diagnostics) (b .diagnostics) d) refl }
-
--- Four tests
-
-module _ (l : Limits) (locals frames captures references : List ℕ) where
-  abbrev all-four : Bool
-  all-four =
-      leb (16 * l .«max_locals») (length locals) && leb (16 * l .«max_frames») (length frames)
-      && leb (16 * l .«max_captures») (length captures) && leb (16 * l .«max_references») (length references)
-
-  pub first-short : length locals < 16 * l .«max_locals» → false ≡ all-four
-  first-short lt = rw (lt-leb _ _ lt) refl
-
-  module _ (one : 16 * l .«max_locals» ≤ length locals) where
-    pub second-short : length frames < 16 * l .«max_frames» → false ≡ all-four
-    second-short lt = rw (le-leb _ _ one, lt-leb _ _ lt) refl
-
-    module _ (two : 16 * l .«max_frames» ≤ length frames) where
-      pub third-short : length captures < 16 * l .«max_captures» → false ≡ all-four
-      third-short lt = rw (le-leb _ _ one, le-leb _ _ two, lt-leb _ _ lt) refl
-
-      pub fourth-test : 16 * l .«max_captures» ≤ length captures → leb (16 * l .«max_references») (length references) ≡ all-four
-      fourth-test three = rw (le-leb _ _ one, le-leb _ _ two, le-leb _ _ three) refl
 
 -- Zeros all over
 

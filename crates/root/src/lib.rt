@@ -1,10 +1,9 @@
 // What stands around the walk of the root: the state before it, the externals and the root's frame, the report, and the buffers cleared.
-ghost use mathlib.Core.Bool.{true, false, _&&_};
+ghost use mathlib.Core.Bool.{true, false};
 ghost use mathlib.Core.Option.{some};
 ghost use mathlib.Core.Path.{_≡_};
 ghost use Prim.Native.Nat.{_+_, _*_, _<_, _≤_};
 ghost use lib.ListN.{length};
-ghost use lib.Dec.{leb};
 ghost use Rattle.rules.specs.Outcome.{refuse};
 ghost use Rattle.rules.specs.Records.{no-span};
 ghost use Rattle.rules.specs.Tree.{external};
@@ -105,28 +104,6 @@ pub fn accepted(st: AnalysisStack) -> AnalysisReport
         rounds: st.rounds,
         depths: depths,
     }
-}
-
-// Whether each table has sixteen numbers for each entry of its limit.
-pub fn tables_fit(
-    locals: &[u32],
-    frames: &[u32],
-    captures: &[u32],
-    references: &[u32],
-    limits: Limits,
-) -> bool
-    ensures { λ r. ⌜ r ≡ (leb (16 * limits .«max_locals») (length (now (locals .entry))) && leb (16 * limits .«max_frames») (length (now (frames .entry))) && leb (16 * limits .«max_captures») (length (now (captures .entry))) && leb (16 * limits .«max_references») (length (now (references .entry)))) ⌝ }
-{
-    if locals.len() < 16 * (limits.max_locals as usize) {
-        return false;
-    }
-    if frames.len() < 16 * (limits.max_frames as usize) {
-        return false;
-    }
-    if captures.len() < 16 * (limits.max_captures as usize) {
-        return false;
-    }
-    16 * (limits.max_references as usize) <= references.len()
 }
 
 // The tables become zero, and both buffers behind what is kept of them.

@@ -12,7 +12,6 @@ ghost use Rattle.runs.specs.Run.{Accepted, items-at, binds-at, params-at, heads
 ghost use Rattle.runs.specs.Run.{run-expr, run-items, run-assertions, run-values, run-heads, run-binds, run-params};
 ghost use Rattle.runs.specs.Steps.{first-defaults};
 ghost use Rattle.joins.specs.Ready.{not-opened, no-value, no-spec, not-kept, Ready, There, Plain-there, Held-there, Members-there, Fields-there, fields-steps, members-steps};
-use atoms::emit_head;
 use closing::finish_function;
 use closing::finish_local;
 use closing::finish_object;
@@ -20,12 +19,11 @@ use copying::copy_record;
 use copying::emit_constants;
 use depths::AnalysisResult;
 use distinct::is_static;
+use emitting::emit_head;
+use framing::open_frame;
 use judging::settle_frame;
 use keeping::Spec;
-use keeping::close_array;
-use keeping::close_assertions;
 use keeping::close_spec;
-use keeping::close_value;
 use keeping::record_spec_init;
 use leaves::is_leaf;
 use leaves::on_leaf;
@@ -51,6 +49,9 @@ use placing::head_naming;
 use placing::in_object;
 use recording::FunctionEnd;
 use recording::ObjectEnd;
+use shaping::close_array;
+use shaping::close_assertions;
+use shaping::close_value;
 use skipping::after_head;
 use state::AnalysisStack;
 use state::Limits;
@@ -59,7 +60,6 @@ use state::Place;
 use state::Specs;
 use state::Step;
 use state::Walked;
-use writing::open_frame;
 
 // Whether the first of n parameters has a default.
 fn first_defaults(tree: &[u8], at: usize, n: u32) -> bool

@@ -1,7 +1,7 @@
 -- What a record behind the bytes that were used means: the rules' state with one record more, or a refusal. Assumes nothing.
 use Prim.Native.Nat.{ℕ, _+_, _≤_, _<_}
 use mathlib.Core.Bool.{Bool, true, false, _||_}
-use mathlib.Core.List.{List, [], _∷_, _++_}
+use mathlib.Core.List.{List, [], _∷_, _++_, append-assoc}
 use mathlib.Core.Path.{_≡_, refl, sym, ap, _∙_}
 use native.Mathlib.Decide.{decLt}
 use native.Mathlib.Omega.{arith}
@@ -37,6 +37,16 @@ put-behind (To next) before after used bytes p =
     let long : length (take used before ++ bytes) ≡ next = length-append (take used before) bytes ∙ omega (arith, length-take-le used before within, p .0) in
     (p .0, p .1, ap (take next) (p .2) ∙ take-at (take used before ++ bytes) (drop (used + length bytes) before) next long)
 put-behind NoRoom before after used bytes p = p .0
+
+-- what stands behind the bytes that stand behind those that were used
+pub behind-more : (r : Written) (before middle after : List ℕ) (used next : ℕ) (bytes more : List ℕ) → length middle ≡ length before
+    → Behind (To next) before middle used bytes → Behind r middle after next more → Behind r before after used (bytes ++ more)
+behind-more (To end) before middle after used next bytes more long p q = (
+  omega (arith, p .0, q .0, length-append bytes more),
+  omega (arith, q .1),
+  q .2 ∙ ap (λ bs. bs ++ more) (p .2) ∙ append-assoc (take used before) bytes more,
+)
+behind-more NoRoom before middle after used next bytes more long p q = omega (arith, p .0, q, length-append bytes more)
 
 module _ (before after : List ℕ) (used : ℕ) (bytes : List ℕ) where
   -- where they stand there was room

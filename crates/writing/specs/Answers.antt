@@ -1,16 +1,13 @@
 -- What each step answers and leaves: the rules' step on the state that the buffers hold, whatever stands in those that it doesn't touch.
 -- Assumes nothing.
 use Prim.Native.Nat.{ℕ, _+_, _≤_, _<_}
-use mathlib.Core.Bool.{Bool}
 use mathlib.Core.List.{List, [], _∷_, _++_}
 use mathlib.Core.Path.{_≡_}
 use lib.ListN.{length, getD, take}
-use Rattle.rules.specs.Numbers.{Mark, SH, mark-bytes, record-bytes}
-use Rattle.rules.specs.Frames.{top}
+use Rattle.rules.specs.Numbers.{Mark, mark-bytes}
 use Rattle.rules.specs.Writing as rules
 use Rattle.putting.specs.declared.Written.{Written}
 use Rattle.putting.specs.declared.Written.the-variants.{To, NoRoom}
-use Rattle.resolving.specs.Meaning.{frames-of}
 use Rattle.state.specs.Seen.{span-of, buffers, stack, seen, limits-of, Fit, Fits}
 use Rattle.state.specs.declared.AnalysisStack.{AnalysisStack}
 use Rattle.state.specs.declared.Limits.{Limits}
@@ -21,10 +18,6 @@ use Rattle.writing.specs.declared.Level.the-variants.{Error, Warning}
 unfoldable pub level-of : Level → rules.Level
 level-of Error = rules.error
 level-of Warning = rules.warning
-
--- the record of the shape of the top of n frames
-abbrev pub shape-bytes : (n : ℕ) → (frames : List ℕ) → (count : ℕ) → (captures : List ℕ) → List ℕ
-shape-bytes n frames count captures = record-bytes SH (rules.shape-numbers (top (frames-of n frames count captures)))
 
 -- these bytes stand behind those that were used, or had no room; what lies past them may be anything
 abbrev pub Behind : Written → (before after : List ℕ) → (used : ℕ) → (bytes : List ℕ) → Type 0
@@ -60,22 +53,3 @@ pub record BadPlace (r : Step) (out out′ diagnostics diagnostics′ : List ℕ
   pub fit : (l : Limits) (locals frames captures references : List ℕ)
       → Fit l (buffers out diagnostics locals frames captures references) st
       → Fits l r (buffers out′ diagnostics′ locals frames captures references)
-
--- a frame more
-pub record FrameOpened (r : Step) (before after : List ℕ) (l : Limits) (st : AnalysisStack) (place : ℕ) (is-defining : Bool) : Type 0 where
-  pub same : (out diagnostics locals captures references : List ℕ)
-      → Fit l (buffers out diagnostics locals before captures references) st
-      → seen r (buffers out diagnostics locals after captures references)
-      ≡ rules.open-frame (limits-of l out diagnostics) place is-defining (stack (buffers out diagnostics locals before captures references) st)
-  pub fit : (out diagnostics locals captures references : List ℕ)
-      → Fit l (buffers out diagnostics locals before captures references) st
-      → Fits l r (buffers out diagnostics locals after captures references)
-
--- the top frame's shape, and the frame is gone
-pub record FrameClosed (r : Step) (out out′ frames captures captures′ : List ℕ) (st : AnalysisStack) (place : ℕ) : Type 0 where
-  pub same : (l : Limits) (diagnostics locals references : List ℕ)
-      → seen r (buffers out′ diagnostics locals frames captures′ references)
-      ≡ rules.close-frame (limits-of l out diagnostics) place (stack (buffers out diagnostics locals frames captures references) st)
-  pub fit : (l : Limits) (diagnostics locals references : List ℕ)
-      → Fit l (buffers out diagnostics locals frames captures references) st
-      → Fits l r (buffers out′ diagnostics locals frames captures′ references)

@@ -18,8 +18,16 @@ pub const PROFILES: [Profile; 5] = [
     ("functions", functions),
 ];
 
-/// Where a frame's rounds grow with it, and where no field's name is above those before it.
-pub const UNKIND: [Profile; 2] = [("settling", settling), ("descending", descending)];
+/// Where a frame's rounds grow with it, where no field's name is above those before it, and where they go up and down.
+pub const UNKIND: [Profile; 4] = [
+    ("settling", settling),
+    ("descending", descending),
+    ("shuffled", shuffled),
+    ("fields", fields),
+];
+
+/// So few binds has an object of `fields`, so that few locals are live.
+const BINDS: u32 = 2;
 
 fn header() -> Vec<u8> {
     let mut tree = vec![];
@@ -105,21 +113,43 @@ fn deep(count: u32) -> Vec<u8> {
 
 /// {local n0 = 1, local n1 = n0 + self, .., f0: n0 + self, f1: n1 + $, ..}
 fn objects(count: u32) -> Vec<u8> {
-    object(count, |i| i)
+    object(count, 0..count)
 }
 
 /// The same with the fields' names from the highest down.
 fn descending(count: u32) -> Vec<u8> {
-    object(count, |i| count - 1 - i)
+    object(count, (0..count).rev())
 }
 
-fn object(count: u32, field: impl Fn(u32) -> u32) -> Vec<u8> {
+/// The same with the fields' names in no order.
+fn shuffled(count: u32) -> Vec<u8> {
+    object(count, in_no_order(count))
+}
+
+/// {local n0 = 1, local n1 = n0 + self, f4: n0 + self, f0: n1 + $, f9: n0 + self, ..}
+fn fields(count: u32) -> Vec<u8> {
+    object(BINDS, in_no_order(count))
+}
+
+/// The numbers below count in an order as if by chance, the same each time.
+fn in_no_order(count: u32) -> impl ExactSizeIterator<Item = u32> {
+    let scattered = |i: &u32| {
+        let high = i.wrapping_mul(2_654_435_769);
+        (high ^ (high >> 15)).wrapping_mul(2_246_822_519)
+    };
+    let mut names: Vec<u32> = (0..count).collect();
+    names.sort_by_key(scattered);
+    names.into_iter()
+}
+
+fn object(binds: u32, names: impl ExactSizeIterator<Item = u32>) -> Vec<u8> {
     let mut tree = header();
-    put(&mut tree, b"OB", &[count, 0, count]);
-    for i in 0..count {
-        put(&mut tree, b"FH", &[0, field(i), i, 0, 0, 0]);
+    let count = names.len() as u32;
+    put(&mut tree, b"OB", &[binds, 0, count]);
+    for (i, field) in (0..count).zip(names) {
+        put(&mut tree, b"FH", &[0, field, i, 0, 0, 0]);
     }
-    for i in 0..count {
+    for i in 0..binds {
         put(&mut tree, b"BV", &[i, i]);
         put(&mut tree, b"BI", &[1]);
         predecessor(&mut tree, 0, i);
@@ -127,7 +157,7 @@ fn object(count: u32, field: impl Fn(u32) -> u32) -> Vec<u8> {
     }
     for i in 0..count {
         put(&mut tree, b"BI", &[1]);
-        name(&mut tree, i);
+        name(&mut tree, i % binds);
         put(&mut tree, b"ID", &[2 * (i % 2), i]);
     }
     tree

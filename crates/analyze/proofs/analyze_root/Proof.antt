@@ -20,7 +20,7 @@ use Rattle.packed.proofs.number_at.Reads as number-at-reads
 use Rattle.root.proofs.at_root.Reads as at-root-reads
 use Rattle.root.proofs.begin_root.Reads as begin-root-reads
 use Rattle.walkers.proofs.analyze.Reads as analyze-reads
-use Rattle.writing.proofs.close_frame.Reads as close-frame-reads
+use Rattle.framing.proofs.close_frame.Reads as close-frame-reads
 
 number-at-requires : tie.Need-number-at-requires
 number-at-requires c κs = search needs

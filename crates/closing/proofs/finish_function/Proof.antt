@@ -1,5 +1,6 @@
 -- `finish_function` is the rules' end of a frame and of a function. Assumes nothing.
 use Rattle.closing.proofs.Functions.{function-finished, function-refused}
+use Rattle.emitting.proofs.Laws.{placed}
 use borrow.Author.Needs.{needs}
 use Rattle.closing.proofs.finish_function.Statement.{statement}
 use Rattle.closing.proofs.finish_function.Tie as tie
@@ -16,8 +17,8 @@ enum-known-finished c = search needs
 name-function-requires : tie.Need-name-function-requires
 name-function-requires c κs = search needs
 
-and-place-requires : tie.Need-and-place-requires
-and-place-requires c κs = search needs
+behind-requires : tie.Need-behind-requires
+behind-requires c κs = search needs
 
 enum-known-finished-2 : tie.Need-enum-known-finished-2
 enum-known-finished-2 c = search needs
@@ -35,7 +36,7 @@ same-length-4 : tie.Need-same-length-4
 same-length-4 c = search needs
 
 returns : tie.Need-returns
-returns c = function-finished _ _ _ _ _ _ _ _ _ (c .before .before .before .before .before .before .before .before .before .before .before .before .before .before .before .before .before .before .before .before .before .before .before .before .gives-argument .ensures) (c .before .before .before .before .before .before .before .before .before .before .before .before .before .before .before .before .before .before .before .finish-frame .ensures) (c .before .before .before .before .before .before .before .before .before .finished .given .1) (c .before .before .before .before .before .before .before .before .before .before .before .before .before .before .before .before .before .before .before .finish-frame .kept .0) (c .before .before .before .before .before .before .before .before .before .before .before .before .before .before .before .before .before .before .before .finish-frame .kept .1 .0) (c .before .before .before .before .before .name-function .ensures) (c .and-place .ensures)
+returns c = function-finished _ _ _ _ _ _ _ _ _ (c .before .before .before .before .before .before .before .before .before .before .before .before .before .before .before .before .before .before .before .before .before .before .before .before .gives-argument .ensures) (c .before .before .before .before .before .before .before .before .before .before .before .before .before .before .before .before .before .before .before .finish-frame .ensures) (c .before .before .before .before .before .before .before .before .before .finished .given .1) (c .before .before .before .before .before .before .before .before .before .before .before .before .before .before .before .before .before .before .before .finish-frame .kept .0) (c .before .before .before .before .before .before .before .before .before .before .before .before .before .before .before .before .before .before .before .finish-frame .kept .1 .0) (c .before .before .before .before .before .name-function .ensures) (placed _ (c .behind .ensures))
 
 same-length-5 : tie.Need-same-length-5
 same-length-5 c = search needs
@@ -60,7 +61,7 @@ finish-function-spec =
     finish-frame-requires
     enum-known-finished
     name-function-requires
-    and-place-requires
+    behind-requires
     enum-known-finished-2
     same-length
     same-length-2

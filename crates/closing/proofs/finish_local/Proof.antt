@@ -1,5 +1,6 @@
 -- `finish_local` is the rules' end of a frame and the record of the local. Assumes nothing.
 use Rattle.closing.proofs.Behind.{local-finished, local-refused}
+use Rattle.emitting.proofs.Laws.{placed}
 use borrow.Author.Needs.{needs}
 use Rattle.closing.proofs.finish_local.Statement.{statement}
 use Rattle.closing.proofs.finish_local.Tie as tie
@@ -16,8 +17,8 @@ slice-aggregate-emit c = search needs
 emit-requires : tie.Need-emit-requires
 emit-requires c κs = search needs
 
-and-place-requires : tie.Need-and-place-requires
-and-place-requires c κs = search needs
+behind-requires : tie.Need-behind-requires
+behind-requires c κs = search needs
 
 enum-known-finished-2 : tie.Need-enum-known-finished-2
 enum-known-finished-2 c = search needs
@@ -35,7 +36,7 @@ same-length-4 : tie.Need-same-length-4
 same-length-4 c = search needs
 
 returns : tie.Need-returns
-returns c = local-finished _ _ _ _ (c .before .before .before .before .before .before .before .before .before .before .before .before .before .before .before .before .before .before .finish-frame .ensures) (c .before .before .before .before .before .before .before .before .finished .given .1) (c .before .before .before .before .before .before .before .before .before .before .before .before .before .before .before .before .before .before .finish-frame .kept .0) (c .before .before .before .before .before .before .before .before .before .before .before .before .before .before .before .before .before .before .finish-frame .kept .1 .0) (c .before .before .before .emit .ensures) (c .and-place .ensures)
+returns c = local-finished _ _ _ _ (c .before .before .before .before .before .before .before .before .before .before .before .before .before .before .before .before .before .before .finish-frame .ensures) (c .before .before .before .before .before .before .before .before .finished .given .1) (c .before .before .before .before .before .before .before .before .before .before .before .before .before .before .before .before .before .before .finish-frame .kept .0) (c .before .before .before .before .before .before .before .before .before .before .before .before .before .before .before .before .before .before .finish-frame .kept .1 .0) (c .before .before .before .emit .ensures) (placed _ (c .behind .ensures))
 
 same-length-5 : tie.Need-same-length-5
 same-length-5 c = search needs
@@ -60,7 +61,7 @@ finish-local-spec =
     enum-known-finished
     slice-aggregate-emit
     emit-requires
-    and-place-requires
+    behind-requires
     enum-known-finished-2
     same-length
     same-length-2

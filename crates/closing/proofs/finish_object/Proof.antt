@@ -1,5 +1,6 @@
 -- `finish_object` is the rules' end of a frame and the record of the object. Assumes nothing.
 use Rattle.closing.proofs.Behind.{object-finished, object-refused}
+use Rattle.emitting.proofs.Laws.{placed}
 use borrow.Author.Needs.{needs}
 use Rattle.closing.proofs.finish_object.Statement.{statement}
 use Rattle.closing.proofs.finish_object.Tie as tie
@@ -13,8 +14,8 @@ enum-known-finished c = search needs
 leave-object-requires : tie.Need-leave-object-requires
 leave-object-requires c κs = search needs
 
-and-place-requires : tie.Need-and-place-requires
-and-place-requires c κs = search needs
+behind-requires : tie.Need-behind-requires
+behind-requires c κs = search needs
 
 enum-known-finished-2 : tie.Need-enum-known-finished-2
 enum-known-finished-2 c = search needs
@@ -32,7 +33,7 @@ same-length-4 : tie.Need-same-length-4
 same-length-4 c = search needs
 
 returns : tie.Need-returns
-returns c = object-finished _ _ _ _ (c .before .before .before .before .before .before .before .before .before .before .before .before .before .before .before .before .finish-frame .ensures) (c .before .before .before .before .before .before .finished .given .1) (c .before .before .before .before .before .before .before .before .before .before .before .before .before .before .before .before .finish-frame .kept .0) (c .before .before .before .before .before .before .before .before .before .before .before .before .before .before .before .before .finish-frame .kept .1 .0) _ _ _ _ _ _ (c .before .before .before .leave-object .ensures) (c .and-place .ensures)
+returns c = object-finished _ _ _ _ (c .before .before .before .before .before .before .before .before .before .before .before .before .before .before .before .before .finish-frame .ensures) (c .before .before .before .before .before .before .finished .given .1) (c .before .before .before .before .before .before .before .before .before .before .before .before .before .before .before .before .finish-frame .kept .0) (c .before .before .before .before .before .before .before .before .before .before .before .before .before .before .before .before .finish-frame .kept .1 .0) _ _ _ _ _ _ (c .before .before .before .leave-object .ensures) (placed _ (c .behind .ensures))
 
 same-length-5 : tie.Need-same-length-5
 same-length-5 c = search needs
@@ -56,7 +57,7 @@ finish-object-spec =
     finish-frame-requires
     enum-known-finished
     leave-object-requires
-    and-place-requires
+    behind-requires
     enum-known-finished-2
     same-length
     same-length-2

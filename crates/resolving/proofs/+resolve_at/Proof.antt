@@ -9,7 +9,7 @@ use Rattle.resolving.proofs.resolve_at.Reads as resolve-at
 use Rattle.resolving.proofs.resolve_at.Kinds as resolve-at-kinds
 use Rattle.resolving.proofs.+resolve_at.Lts-resolve_at as resolve-at-lts
 use Rattle.resolving.proofs.add_capture.Reads as add-capture-reads
-use Rattle.captures.proofs.capture_of.Reads as capture-of-reads
+use Rattle.logs.proofs.capture_of.Reads as capture-of-reads
 use Rattle.resolving.proofs.defining.Reads as defining-reads
 use Rattle.frames.proofs.frame_at.Reads as frame-at-reads
 use Rattle.resolving.proofs.resolve.Reads as resolve-reads

@@ -12,7 +12,7 @@ higher-requires c κs = search needs
 
 returns : tie.Need-returns
 unfolding depend-on-local
-returns c = cc
+returns c = rw (c .before .lower .ensures, c .higher .ensures)
 
 pub depend-on-local-spec : {M : Type 1} → statement M
 depend-on-local-spec = tie.close (tie.spec lower-requires higher-requires returns)

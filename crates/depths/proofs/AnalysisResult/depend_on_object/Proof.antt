@@ -9,7 +9,7 @@ lower-requires c κs = search needs
 
 returns : tie.Need-returns
 unfolding depend-on-object
-returns c = cc
+returns c = rw (c .lower .ensures)
 
 pub depend-on-object-spec : {M : Type 1} → statement M
 depend-on-object-spec = tie.close (tie.spec lower-requires returns)

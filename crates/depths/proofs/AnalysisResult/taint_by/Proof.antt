@@ -15,7 +15,7 @@ higher-requires c κs = search needs
 
 returns : tie.Need-returns
 unfolding taint-by
-returns c = cc
+returns c = rw (c .before .before .lower .ensures, c .before .lower2 .ensures, c .higher .ensures)
 
 pub taint-by-spec : {M : Type 1} → statement M
 taint-by-spec = tie.close (tie.spec lower-requires lower-requires-2 higher-requires returns)

@@ -20,11 +20,11 @@ use Rattle.walkers.proofs.on_array.Reads as on-array
 use Rattle.walkers.proofs.+analyze+on_array+on_assertions+on_bind+on_binds+on_fields+on_function+on_head+on_heads+on_held+on_item+on_items+on_local+on_members+on_object+on_param+on_params+on_plain+on_value+on_values.Lts-on_array as on-array-lts
 use Rattle.walkers.proofs.on_items.Reads as on-items
 use Rattle.copying.proofs.emit_constants.Reads as emit-constants-reads
-use Rattle.keeping.proofs.close_array.Reads as close-array-reads
+use Rattle.shaping.proofs.close_array.Reads as close-array-reads
 use Rattle.packed.proofs.number_at.Reads as number-at-reads
 use Rattle.marks.proofs.constants.Reads as constants-reads
 use Rattle.walkers.proofs.not_opened.Reads as not-opened-reads
-use Rattle.writing.proofs.open_frame.Reads as open-frame-reads
+use Rattle.framing.proofs.open_frame.Reads as open-frame-reads
 use Rattle.walkers.proofs.+analyze+on_array+on_assertions+on_bind+on_binds+on_fields+on_function+on_head+on_heads+on_held+on_item+on_items+on_local+on_members+on_object+on_param+on_params+on_plain+on_value+on_values.Proof.Measures.{on-array-at, on-items-below}
 
 on-array-add-number-at : (t : ℕ) → on-array-lts.Need-add-number-at (

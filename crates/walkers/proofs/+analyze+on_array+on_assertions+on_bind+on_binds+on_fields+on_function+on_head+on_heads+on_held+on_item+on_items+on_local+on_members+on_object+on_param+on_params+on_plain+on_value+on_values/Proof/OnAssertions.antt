@@ -14,9 +14,9 @@ use Rattle.joins.proofs.Returns.{assertions-nothing, assertions-unopened, asser
 use Rattle.walkers.proofs.on_assertions.Reads as on-assertions
 use Rattle.walkers.proofs.+analyze+on_array+on_assertions+on_bind+on_binds+on_fields+on_function+on_head+on_heads+on_held+on_item+on_items+on_local+on_members+on_object+on_param+on_params+on_plain+on_value+on_values.Lts-on_assertions as on-assertions-lts
 use Rattle.walkers.proofs.on_items.Reads as on-items
-use Rattle.keeping.proofs.close_assertions.Reads as close-assertions-reads
+use Rattle.shaping.proofs.close_assertions.Reads as close-assertions-reads
 use Rattle.walkers.proofs.not_opened.Reads as not-opened-reads
-use Rattle.writing.proofs.open_frame.Reads as open-frame-reads
+use Rattle.framing.proofs.open_frame.Reads as open-frame-reads
 use Rattle.walkers.proofs.+analyze+on_array+on_assertions+on_bind+on_binds+on_fields+on_function+on_head+on_heads+on_held+on_item+on_items+on_local+on_members+on_object+on_param+on_params+on_plain+on_value+on_values.Proof.Measures.{on-assertions-at, on-items-below}
 
 on-assertions-returns : (t : ℕ) → on-assertions-lts.Need-returns (

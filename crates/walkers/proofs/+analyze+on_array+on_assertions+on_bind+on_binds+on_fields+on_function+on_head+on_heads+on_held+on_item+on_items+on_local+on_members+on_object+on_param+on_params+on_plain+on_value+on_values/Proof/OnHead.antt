@@ -12,7 +12,7 @@ use Rattle.joins.proofs.Returns.{head-alone, head-stopped, head-ended}
 use Rattle.walkers.proofs.analyze.Reads as analyze
 use Rattle.walkers.proofs.on_head.Reads as on-head
 use Rattle.walkers.proofs.+analyze+on_array+on_assertions+on_bind+on_binds+on_fields+on_function+on_head+on_heads+on_held+on_item+on_items+on_local+on_members+on_object+on_param+on_params+on_plain+on_value+on_values.Lts-on_head as on-head-lts
-use Rattle.atoms.proofs.emit_head.Reads as emit-head-reads
+use Rattle.emitting.proofs.emit_head.Reads as emit-head-reads
 use Rattle.packed.proofs.number_at.Reads as number-at-reads
 use Rattle.walkers.proofs.+analyze+on_array+on_assertions+on_bind+on_binds+on_fields+on_function+on_head+on_heads+on_held+on_item+on_items+on_local+on_members+on_object+on_param+on_params+on_plain+on_value+on_values.Proof.Measures.{analyze-below, on-head-at}
 

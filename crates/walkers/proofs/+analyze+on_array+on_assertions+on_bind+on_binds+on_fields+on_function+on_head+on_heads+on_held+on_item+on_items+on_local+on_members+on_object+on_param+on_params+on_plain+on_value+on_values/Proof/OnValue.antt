@@ -14,10 +14,10 @@ use Rattle.joins.proofs.Returns.{value-unopened, value-stopped, value-ended}
 use Rattle.walkers.proofs.analyze.Reads as analyze
 use Rattle.walkers.proofs.on_value.Reads as on-value
 use Rattle.walkers.proofs.+analyze+on_array+on_assertions+on_bind+on_binds+on_fields+on_function+on_head+on_heads+on_held+on_item+on_items+on_local+on_members+on_object+on_param+on_params+on_plain+on_value+on_values.Lts-on_value as on-value-lts
-use Rattle.keeping.proofs.close_value.Reads as close-value-reads
+use Rattle.shaping.proofs.close_value.Reads as close-value-reads
 use Rattle.placing.proofs.head_naming.Reads as head-naming-reads
 use Rattle.walkers.proofs.not_opened.Reads as not-opened-reads
-use Rattle.writing.proofs.open_frame.Reads as open-frame-reads
+use Rattle.framing.proofs.open_frame.Reads as open-frame-reads
 use Rattle.walkers.proofs.+analyze+on_array+on_assertions+on_bind+on_binds+on_fields+on_function+on_head+on_heads+on_held+on_item+on_items+on_local+on_members+on_object+on_param+on_params+on_plain+on_value+on_values.Proof.Measures.{analyze-below, on-value-at}
 
 on-value-open-frame-requires : (t : ℕ) → on-value-lts.Need-open-frame-requires (

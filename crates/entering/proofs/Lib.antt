@@ -1,0 +1,2 @@
+-- What the proof of the entry and of its caller use.
+pub mod Laws

@@ -1,0 +1,86 @@
+-- `capture_of` finds an id among the owner's captures. The loop's invariant: it is not among those of the entries passed, which are k. Assumes nothing.
+use mathlib.Core.Logic.{⊎-elim}
+use mathlib.Core.Path.{sym, _∙_}
+use Prim.Native.Nat.{_-_, _≤_}
+use native.Mathlib.Omega.{arith}
+use borrow.Author.Needs.{needs}
+use Rattle.logs.proofs.Laws.{captures-few, Passed, passed-none, passed-other, passed-mine, passed-hit, searched-hit, passed-all}
+use Rattle.logs.proofs.capture_of.Statement.{statement}
+use Rattle.logs.proofs.capture_of.Tie as tie
+
+abbrev Inv-loop : tie.InvT-loop
+Inv-loop captures from count owner id k₀ i₀ k i = (i ≤ count) × Passed captures owner (id .0) k i
+
+abbrev μ-loop : tie.MeasureT-loop
+μ-loop captures from count owner id k₀ i₀ k i = count - i
+
+loop-holds : tie.Need-loop-holds Inv-loop μ-loop
+loop-holds c = (c .before .pre .1, passed-none _ _ _ _ (c .before .pre .2))
+
+owner-at-requires : tie.Need-owner-at-requires Inv-loop μ-loop
+owner-at-requires c κs = search needs
+
+target-at-requires : tie.Need-target-at-requires Inv-loop μ-loop
+target-at-requires c κs = search needs
+
+cast-t12 : tie.Need-cast-t12 Inv-loop μ-loop
+cast-t12 c =
+    let test = c .before .before .before .before in
+    let turn = test .before .before in
+    let start = turn .before .before .before in
+    omega (
+      arith,
+      start .pre .3,
+      passed-hit _ _ _ _ _ _ (turn .before .loop .inv .1) (turn .loop-test .taken) (sym (test .before .owner-at .ensures) ∙ test .if1 .taken)
+          (sym (c .if2 .taken) ∙ c .before .before .before .target-at .ensures) .1,
+    )
+
+returns : tie.Need-returns Inv-loop μ-loop
+returns c =
+    let test = c .before .before .before .before in
+    let turn = test .before .before in
+    searched-hit _ _ _ _ _ (passed-hit _ _ _ _ _ _ (turn .before .loop .inv .1) (turn .loop-test .taken) (sym (test .before .owner-at .ensures) ∙ test .if1 .taken)
+    (sym (c .if2 .taken) ∙ c .before .before .before .target-at .ensures))
+
+add-k : tie.Need-add-k Inv-loop μ-loop
+add-k c =
+    let loop = c .before .before .before .before .before .before .before .loop in
+    let args = c .before .before .before .before .before .before .before .before .before .args in
+    omega (arith, loop .inv .1 .counted, captures-few (args .owner) (loop .i) (args .captures .now))
+
+add-i : tie.Need-add-i Inv-loop μ-loop
+add-i c = search needs
+
+loop-less : tie.Need-loop-less Inv-loop μ-loop
+loop-less c = search needs
+
+loop-again : tie.Need-loop-again Inv-loop μ-loop
+loop-again c =
+    let loop = c .before .before .before .loop in
+    let owner-at = c .before .owner-at in (
+      omega arith,
+      ⊎-elim
+          (λ w. rw (w .5) (passed-mine _ _ _ _ _ (loop .inv .1) (sym (owner-at .ensures) ∙ w .0 .taken) (λ e. w .4 .left (w .1 .ensures ∙ e))))
+          (λ w. rw (w .1) (passed-other _ _ _ _ _ (loop .inv .1) (λ e. w .0 .left (owner-at .ensures ∙ e))))
+          (c .if1 .came),
+    )
+
+returns-2 : tie.Need-returns-2 Inv-loop μ-loop
+returns-2 c = passed-all _ _ _ _ _ _ (c .before .loop .inv .1) (omega arith)
+
+pub capture-of-spec : {M : Type 1} → statement M
+capture-of-spec =
+    tie.close
+    (tie.spec
+    Inv-loop
+    μ-loop
+    loop-holds
+    owner-at-requires
+    target-at-requires
+    cast-t12
+    returns
+    add-k
+    add-i
+    loop-less
+    loop-again
+    returns-2)

@@ -1,0 +1,2 @@
+-- What the contracts cite beside the rules and the log.
+pub mod Answers
