@@ -18,8 +18,8 @@ NAMED = {'VA': (0, 1), 'BV': (0, 1), 'BF': (0, 1), 'PA': (0, 1), 'FH': (1, 2)}
 
 
 def stored_calls():
-    """The tree, the output and the diagnostics of each stored call of crates/vectors."""
-    stored = (ROOT / 'crates/vectors/stdin').read_bytes()
+    """The tree, the output and the diagnostics of each stored call of crates/gate_calls."""
+    stored = (ROOT / 'crates/gate_calls/stdin').read_bytes()
     at = 8
     for _ in range(struct.unpack_from('<I', stored, 4)[0]):
         lengths = [struct.unpack_from('<I', stored, at + place)[0] for place in (44, 56, 60)]

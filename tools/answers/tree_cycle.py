@@ -126,8 +126,8 @@ answers={C:
  ('.*','search needs')]}
 W='use Rattle.tree.proofs.'
 SP='use Rattle.tree.specs.'
-R='use Rattle.marks.'
-K='use Rattle.skipping.'
+R='use Rattle.bytes_records.'
+K='use Rattle.bytes_skip.'
 base=['use borrow.Author.Needs.{needs}','use native.Mathlib.Omega.{arith}']
 SZU=['use Rattle.rules.specs.Outcome.{choose}','use Rattle.rules.specs.Numbers.{code}','use Rattle.rules.specs.Records.{size-of, numbers-of, widths, width, fields}',R+'specs.Marks.{mark-of, find-mark, marks}']
 NAT=['use Prim.Native.Nat.{ℕ}']

@@ -397,23 +397,23 @@ answers={C:JOINED+[('μ-on-items',f'16 * {NEST} + {ITEMS_RANK}')]+[(f'μ-{k}' ,f
  +[(n.replace('_','-')+r'-same-length(-\d+)?',length_of(n.replace('_','-'))) for n in names]+coded(exprs+items)+unfolded(held+array+plain+local+function+objects+members+fields+assertions+values+loops+heads+binds+params)
  +[('.*','search needs')]}
 # every name that an answer may use; tools/prune.py takes those out that a module does not use
-J='use Rattle.joins.proofs.'
+J='use Rattle.law_joins.proofs.'
 common=['use Prim.Native.Nat.{ℕ, _+_, _-_, _*_, _<_, _≤_}','use borrow.Author.Needs.{needs}','use native.Mathlib.Omega.{arith}','use mathlib.Core.Bool.{true, false}','use mathlib.Core.List.{[]}','use mathlib.Core.Path.{_≡_, refl, sym, _∙_, ap, subst}','use lib.ListN.{length}',
 'use Rattle.rules.specs.Outcome.{ok, choose}','use Rattle.rules.specs.Numbers.{code, code-at}','use Rattle.rules.specs.Records.{size-of, numbers-of, widths, width, fields}','use Rattle.rules.specs.FirstWalk.{any-expression, expr-at}','use Rattle.rules.specs.Walk as walk','use Rattle.rules.specs.Walk.{unnamed}',
-'use Rattle.marks.specs.Marks.{mark-of, find-mark, marks}','use Rattle.runs.specs.Run.{Accepted, items-at, binds-at, params-at, heads-at, run-items, run-heads, run-binds, run-params}',
-'use Rattle.runs.proofs.Reading.{expr-level}',
-'use Rattle.runs.proofs.Expressions.{identity-size, identity-kind, constant-size, variable-size, import-size, array-size, constants-size, array-items, local-size, local-only-body, function-size, function-first-size, object-size}',
-'use Rattle.runs.proofs.Holders.{held-marked, held-sized, held-size, held-first, not-held}',
-'use Rattle.runs.proofs.Lists.{head-fits, head-name, value-there, value-head-fits, binds-short, params-short, bind-fits, bind-value, param-fits, param-default}',
-'use Rattle.state.specs.Seen.{buffers, stack, limits-of}','use Rattle.keeping.specs.Answers.{spec-mark, spec-numbers}','use Rattle.state.specs.Walks.{place-of, naming-of}',
-'use Rattle.placing.proofs.Laws.{outermost-so}','use Rattle.opening.proofs.Laws.{stack-depending, fit-depending}',
-'use Rattle.joins.specs.Ready.{an-argument, a-part, an-assertion}',
+'use Rattle.bytes_records.specs.Marks.{mark-of, find-mark, marks}','use Rattle.law_runs.specs.Run.{Accepted, items-at, binds-at, params-at, heads-at, run-items, run-heads, run-binds, run-params}',
+'use Rattle.law_runs.proofs.Reading.{expr-level}',
+'use Rattle.law_runs.proofs.Expressions.{identity-size, identity-kind, constant-size, variable-size, import-size, array-size, constants-size, array-items, local-size, local-only-body, function-size, function-first-size, object-size}',
+'use Rattle.law_runs.proofs.Holders.{held-marked, held-sized, held-size, held-first, not-held}',
+'use Rattle.law_runs.proofs.Lists.{head-fits, head-name, value-there, value-head-fits, binds-short, params-short, bind-fits, bind-value, param-fits, param-default}',
+'use Rattle.state.specs.Seen.{buffers, stack, limits-of}','use Rattle.step_spec.specs.Answers.{spec-mark, spec-numbers}','use Rattle.state.specs.Walks.{place-of, naming-of}',
+'use Rattle.step_place.proofs.Laws.{outermost-so}','use Rattle.step_open.proofs.Laws.{stack-depending, fit-depending}',
+'use Rattle.law_joins.specs.Ready.{an-argument, a-part, an-assertion}',
 J+'Joining.{unopened, valueless, specless, unkept, went-fit, kept-fit}',
 J+'Readiness.{ready-on}',
 J+'Onward.{ready-expr, ready-assertions, ready-opened, ready-value, ready-local, ready-function, ready-object, ready-heads, ready-settled, longer-value}',
 J+'Asking.{opened, settleable, stands, fitting, locals-counted, references-counted, written-counted}',
 J+'Stages.{children-here, plain-children, plain-fits, plain-marked, stage-settleable, stage-body, stage-ends, local-binds-there, local-stage, function-params-there, function-stage, object-heads-there, object-members, members-binds-there, members-stage, members-end-asks, fields-assertions, fields-values, static-told, held-second-there}',
-'use Rattle.leaves.specs.Leaves.{is-leaf, items-rank}','use Rattle.leaves.proofs.Laws.{rank-one, rank-more, rank-falls, leaf-item, leaf-answered, no-identity, no-constant, no-variable, no-import}',
+'use Rattle.step_leaf.specs.Leaves.{is-leaf, items-rank}','use Rattle.step_leaf.proofs.Laws.{rank-one, rank-more, rank-falls, leaf-item, leaf-answered, no-identity, no-constant, no-variable, no-import}',
 J+'Turns.{Turn, turned, either-turned, turn-begin, turn-end, turn-first, turn-stop, turn-next, Turn-specs, specs-begin, specs-end, specs-first, specs-stops, specs-next, Turn-values, values-begin, values-end, turn-value, turn-head-fits, values-stops, values-turn, items-unroll, heads-unroll, binds-unroll, params-unroll}',
 J+'Returns.{told, the-holder, identity-returns, constant-returns, variable-returns, import-returns, array-constant, array-unopened, array-stopped, array-ended, plain-stopped, plain-ended, local-only, local-unbegun, local-binds-stopped, local-body-stopped, local-ended}',
 J+'Returns.{function-unbegun, function-params-stopped, function-body-stopped, function-ended, object-heads-stopped, object-ended, members-unbegun, members-binds-stopped, members-fields-stopped, members-ended, fields-stopped, fields-ended, assertions-nothing, assertions-unopened, assertions-stopped, assertions-ended}',
@@ -421,4 +421,4 @@ J+'Returns.{value-unopened, value-stopped, value-ended, head-alone, head-stopped
 about={'Analyze':'an expression','OnFunction':'a function','OnMembers':"an object's members",'OnArray':'an array','OnAssertions':"an object's assertions",'OnBind':'a bind','OnBinds':'binds','OnFields':"an object's assertions and values",'OnHead':"a field's head",'OnHeads':'heads','OnHeld':'a record that holds expressions','OnItem':'an item','OnItems':'items','OnLocal':'a local','OnObject':'an object','OnParam':'a parameter','OnParams':'parameters','OnPlain':'a record that opens no frame','OnValue':"a field's value",'OnValues':'values'}
 comments={C+'/'+m:[f'-- The walk over {about[m]}: each need of its code, answered from the laws of joins. Assumes nothing.'] for m in about}
 uses={C+'/'+m:common for m in about}
-uses[C+'/Measures']=['use Prim.Native.Nat.{ℕ, _+_, _*_, _<_}','use Rattle.leaves.specs.Leaves.{items-rank}']
+uses[C+'/Measures']=['use Prim.Native.Nat.{ℕ, _+_, _*_, _<_}','use Rattle.step_leaf.specs.Leaves.{items-rank}']

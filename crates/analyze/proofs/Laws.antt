@@ -10,8 +10,8 @@ use Rattle.state.specs.declared.AnalysisStack.{AnalysisStack}
 use Rattle.state.specs.declared.Limits.{Limits}
 use Rattle.state.specs.declared.Step.{Step}
 use Rattle.state.specs.declared.Step.the-variants as step-as
-use Rattle.root.specs.Answers.{lent, left, report-meaning}
-use Rattle.root.specs.declared.AnalysisReport.{AnalysisReport}
+use Rattle.call_root.specs.Answers.{lent, left, report-meaning}
+use Rattle.call_root.specs.declared.AnalysisReport.{AnalysisReport}
 use Rattle.analyze.specs.Answers.{Ran, Told, report-numbers}
 
 module _ {r : Step} (s : List ℕ) (b b′ : Buffers) (l : Limits) where

@@ -1,9 +1,9 @@
 // Files read whole.
 use check::same;
-use shows::parts::behind;
-use shows::text::row_of;
-use shows::text::say;
-use shows::text::two_digits;
+use slots_text::parts::behind;
+use slots_text::text::row_of;
+use slots_text::text::say;
+use slots_text::text::two_digits;
 
 // Why a file could not be opened or read, by the system's number for it.
 const REASONS: [u8; 130] = *b"\

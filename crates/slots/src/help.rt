@@ -1,5 +1,5 @@
 // The help, and the room that it tells of.
-use shows::text::fill;
+use slots_text::text::fill;
 
 // The longest tree and the longest output, in bytes, and the room for diagnostics.
 pub const TREE: usize = 131072;

@@ -4,6 +4,7 @@ mod help;
 mod refusals;
 mod report;
 
+use call_root::AnalysisReport;
 use check::same;
 use files::Reading;
 use files::read_file;
@@ -16,12 +17,11 @@ use help::TREE;
 use help::show_help;
 use refusals::show_refusal;
 use report::show_report;
-use root::AnalysisReport;
-use shows::diagnostics::show_diagnostics;
-use shows::layout::show_records;
-use shows::parts::front;
-use shows::text::fill;
-use shows::text::say;
+use slots_text::diagnostics::show_diagnostics;
+use slots_text::layout::show_records;
+use slots_text::parts::front;
+use slots_text::text::fill;
+use slots_text::text::say;
 use state::Limits;
 
 // What became of one file.

@@ -1,9 +1,9 @@
 // The report of an accepted tree in words.
-use depths::AnalysisResult;
-use root::AnalysisReport;
-use shows::diagnostics::Tally;
-use shows::text::fill;
-use shows::text::say;
+use call_root::AnalysisReport;
+use slots_text::diagnostics::Tally;
+use slots_text::text::fill;
+use slots_text::text::say;
+use value_depths::AnalysisResult;
 
 // A depth, of which the greatest number stands for none.
 fn say_depth(depth: u32) {

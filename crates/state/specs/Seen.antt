@@ -5,12 +5,12 @@ use lib.ListN.{length, take}
 use Rattle.rules.specs.Outcome.{Outcome, ok, refuse}
 use Rattle.rules.specs.Records.{Span}
 use Rattle.rules.specs.State as rules
-use Rattle.depths.specs.Meaning.{result}
-use Rattle.entries.specs.Meaning.{locals-of}
-use Rattle.references.specs.Meaning.{references-of}
-use Rattle.frames.specs.Meaning.{number}
-use Rattle.resolving.specs.Meaning.{frames-of}
-use Rattle.resolving.specs.Kept.{Kept}
+use Rattle.value_depths.specs.Meaning.{result}
+use Rattle.table_locals.specs.Meaning.{locals-of}
+use Rattle.table_references.specs.Meaning.{references-of}
+use Rattle.table_frames.specs.Meaning.{number}
+use Rattle.resolver.specs.Meaning.{frames-of}
+use Rattle.resolver.specs.Kept.{Kept}
 use Rattle.state.specs.declared.AnalysisStack.{AnalysisStack}
 use Rattle.state.specs.declared.Limits.{Limits}
 use Rattle.state.specs.declared.Step.{Step}

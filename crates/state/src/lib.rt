@@ -1,6 +1,6 @@
 // The state of the analysis, which goes by value beside the lent tables: types only.
-use depths::AnalysisResult;
-use locals::LocalId;
+use value_depths::AnalysisResult;
+use value_local::LocalId;
 
 // How many entries of each table and how many bytes of each buffer are in use, what was met of the present object, what the
 // present value depends on, whether an error was reported, and the rounds so far.

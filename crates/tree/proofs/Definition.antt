@@ -17,15 +17,15 @@ use Rattle.rules.specs.Tree.{Expr, Heads, no-exprs, _then_, no-binds, no-params
 use Rattle.rules.specs.FirstWalk.{Allowed, any-expression, function-only, object-only, Child, level, Groups, Form, Read, nth, rows, row-of, allowed, only, bind-rows, many, none-left, record-at, constants-at, below, expr-at}
 use Rattle.rules.specs.FirstWalk.{an-identity, a-constant, a-variable, an-array, an-import, a-local, a-function, an-object, parts, expressions, argument, index-part, assertion, members, value-groups, value-allowed}
 use Rattle.rules.proofs.After.{After, fine, refused, after-bind, after-choose, after-many, after-weaken}
-use Rattle.skipping.proofs.Reading.{Was, record-was, only-mark}
+use Rattle.bytes_skip.proofs.Reading.{Was, record-was, only-mark}
 use Rattle.rules.specs.FirstWalk.{expr-item, holder-at, child-at, groups-at, bind-item, param-item, head-item, head-of}
-use Rattle.skipping.specs.Places.{past, judged-at, over, expected-at, expr-past, exprs-past, below-past, held-past}
-use Rattle.marks.specs.Marks.{mark-of, find-mark, marks, children}
-use Rattle.marks.specs.Constants.{is-some}
+use Rattle.bytes_skip.specs.Places.{past, judged-at, over, expected-at, expr-past, exprs-past, below-past, held-past}
+use Rattle.bytes_records.specs.Marks.{mark-of, find-mark, marks, children}
+use Rattle.bytes_records.specs.Constants.{is-some}
 use Rattle.tree.specs.Places.{lone, Lone, opened-at, bind-past, value-past, values-past}
 use Rattle.tree.specs.Places.{plain-past, array-past, extended-past, local-past, call-past, index-past, function-past, object-past}
-use Rattle.marks.proofs.Laws.{mark-code}
-use Rattle.skipping.proofs.Binding.{past-read, past-then, past-put, past-after, past-many, past-list, over-one, bind-right, bind-ext}
+use Rattle.bytes_records.proofs.Laws.{mark-code}
+use Rattle.bytes_skip.proofs.Binding.{past-read, past-then, past-put, past-after, past-many, past-list, over-one, bind-right, bind-ext}
 use Rattle.tree.proofs.Leaves.{expected-short, expected-other, expected-first}
 
 pub only-row : (m : Mark) (c : ℕ) → row-of c (only m) ≡ choose (eqb c (code m)) (λ _. some (m, tt)) (λ _. none)

@@ -8,7 +8,7 @@ use borrow.Author.Tests.{le-leb, lt-leb}
 use Rattle.rules.specs.Outcome.{ok, refuse, _>>=_, need, choose}
 use Rattle.rules.specs.Numbers.{Mark, numbers-at}
 use Rattle.rules.specs.Records.{fields, numbers-of, size-of, all-in-range}
-use Rattle.skipping.specs.Places.{judged-at}
+use Rattle.bytes_skip.specs.Places.{judged-at}
 
 module _ (s : List ℕ) (m : Mark) (p : ℕ) where
   pub judged-short : length s < p + size-of m → refuse 1 p ≡ judged-at s m p

@@ -12,11 +12,11 @@ use Rattle.rules.proofs.After.{after-ok}
 use Rattle.tree.specs.declared.Walk.{Walk}
 use Rattle.tree.specs.declared.Walk.the-variants.{Past, Refused}
 use Rattle.tree.specs.Seen.{seen}
-use Rattle.marks.specs.Marks.{mark-of}
-use Rattle.skipping.specs.Places.{judged-at, expected-at, Within}
+use Rattle.bytes_records.specs.Marks.{mark-of}
+use Rattle.bytes_skip.specs.Places.{judged-at, expected-at, Within}
 use Rattle.tree.specs.Places.{opened-at}
 use Rattle.tree.specs.Left.{Opened, Expected}
-use Rattle.skipping.proofs.Heads.{judged-within}
+use Rattle.bytes_skip.proofs.Heads.{judged-within}
 use Rattle.tree.proofs.Binding.{past-seen, stopped, apart, same-place}
 
 module _ (s : List ℕ) where

@@ -6,7 +6,7 @@ use Rattle.rules.specs.Outcome.{Outcome, ok, refuse, _>>=_}
 use Rattle.tree.specs.declared.Walk.{Walk}
 use Rattle.tree.specs.declared.Walk.the-variants.{Past, Refused}
 use Rattle.tree.specs.Seen.{seen}
-use Rattle.skipping.specs.Places.{over}
+use Rattle.bytes_skip.specs.Places.{over}
 use Rattle.tree.proofs.Binding.{past-seen, refused-seen}
 
 -- n turns of f give w; i are done, and p is reached

@@ -16,16 +16,16 @@ use Rattle.rules.proofs.After.{chosen}
 use Rattle.tree.specs.declared.Walk.{Walk}
 use Rattle.tree.specs.declared.Walk.the-variants.{Past, Refused}
 use Rattle.tree.specs.Seen.{seen}
-use Rattle.skipping.specs.Places.{past, over, expected-at, expr-past, exprs-past, below-past, held-past}
-use Rattle.marks.specs.Marks.{mark-of, children}
-use Rattle.marks.specs.Constants.{is-some}
+use Rattle.bytes_skip.specs.Places.{past, over, expected-at, expr-past, exprs-past, below-past, held-past}
+use Rattle.bytes_records.specs.Marks.{mark-of, children}
+use Rattle.bytes_records.specs.Constants.{is-some}
 use Rattle.tree.specs.Places.{Ends, lone, opened-at, bind-past, value-past, values-past}
 use Rattle.tree.specs.Places.{plain-past, array-past, extended-past, local-past, call-past, index-past, function-past, object-past}
-use Rattle.skipping.specs.Behind.{Behind}
-use Rattle.marks.proofs.Laws.{All, _also_, numbers-part, is-set-nonzero}
+use Rattle.bytes_skip.specs.Behind.{Behind}
+use Rattle.bytes_records.proofs.Laws.{All, _also_, numbers-part, is-set-nonzero}
 use Rattle.tree.proofs.Binding.{past-seen, refused-seen, went, stopped}
-use Rattle.skipping.proofs.Binding.{bind-ok, Both}
-use Rattle.skipping.proofs.Heads.{head-fits}
+use Rattle.bytes_skip.proofs.Binding.{bind-ok, Both}
+use Rattle.bytes_skip.proofs.Heads.{head-fits}
 use Rattle.tree.proofs.Definition.{expr-other, bind-function, bind-value}
 
 -- what is known by a mark's number in hand is known by the number itself

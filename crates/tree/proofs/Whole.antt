@@ -13,7 +13,7 @@ use Rattle.rules.specs.FirstWalk.{any-expression, only, nth, expr-at, tree-at}
 use Rattle.tree.specs.declared.Walk.{Walk}
 use Rattle.tree.specs.declared.Walk.the-variants.{Past, Refused}
 use Rattle.tree.specs.Seen.{seen, ended}
-use Rattle.skipping.specs.Places.{past, expected-at}
+use Rattle.bytes_skip.specs.Places.{past, expected-at}
 use Rattle.tree.proofs.Binding.{went, stopped}
 use Rattle.tree.proofs.Definition.{got, only-row, record-expected}
 

@@ -2,7 +2,7 @@
 use Prim.Native.Nat.{ℕ, _<_}
 use mathlib.Core.List.{List}
 use mathlib.Core.Path.{_≡_}
-use Rattle.skipping.specs.Places.{Within, expected-at}
+use Rattle.bytes_skip.specs.Places.{Within, expected-at}
 use Rattle.tree.specs.declared.Walk.{Walk}
 use Rattle.tree.specs.declared.Walk.the-variants.{Past}
 use Rattle.tree.specs.Seen.{seen}

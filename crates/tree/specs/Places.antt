@@ -6,9 +6,9 @@ use lib.Dec.{eqb, ltb}
 use Rattle.rules.specs.Outcome.{Outcome, ok, _>>=_, need, choose}
 use Rattle.rules.specs.Numbers.{number-at, is-set, code, FN, OB}
 use Rattle.rules.specs.FirstWalk.{Allowed, any-expression, function-only, object-only, constants-at, bind-item, expr-at}
-use Rattle.marks.specs.Marks.{mark-of}
-use Rattle.marks.specs.Constants.{is-some}
-use Rattle.skipping.specs.Places.{past, over, judged-at, expr-past, exprs-past, below-past, held-past}
+use Rattle.bytes_records.specs.Marks.{mark-of}
+use Rattle.bytes_records.specs.Constants.{is-some}
+use Rattle.bytes_skip.specs.Places.{past, over, judged-at, expr-past, exprs-past, below-past, held-past}
 
 -- a step that ends somewhere
 pub record Ends (o : Outcome ℕ) : Type 0 where

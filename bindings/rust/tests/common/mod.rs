@@ -8,7 +8,7 @@ pub use container::Vector;
 use packed::Lent;
 use tsilmogar::Limits;
 
-const STORED: &str = concat!(env!("CARGO_MANIFEST_DIR"), "/../../crates/vectors/stdin");
+const STORED: &str = concat!(env!("CARGO_MANIFEST_DIR"), "/../../crates/gate_calls/stdin");
 
 pub const NOTHING: Limits = Limits {
     locals: 0,

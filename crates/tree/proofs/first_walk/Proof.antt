@@ -2,46 +2,12 @@
 use Rattle.rules.specs.Outcome.{choose}
 use Rattle.rules.specs.Numbers.{code}
 use Rattle.rules.specs.Records.{size-of, numbers-of, widths, width, fields}
-use Rattle.marks.specs.Marks.{mark-of, find-mark, marks}
+use Rattle.bytes_records.specs.Marks.{mark-of, find-mark, marks}
 use Rattle.tree.proofs.Whole.{tree-refused, many-names, names-missing, root-refused, bytes-follow, all-read}
 use borrow.Author.Needs.{needs}
 use native.Mathlib.Omega.{arith}
 use Rattle.tree.proofs.first_walk.Statement.{statement}
 use Rattle.tree.proofs.first_walk.Tie as tie
-
-expect-requires : tie.Need-expect-requires
-expect-requires c κs = search needs
-
-enum-known-w : tie.Need-enum-known-w
-enum-known-w c = search needs
-
-enum-told : tie.Need-enum-told
-enum-told c = search needs
-
-returns : tie.Need-returns
-returns c =
-    let args· = c .before .before .before .before .args in
-    let expect· = c .before .before .expect in
-    let enum-told· = c .enum-told in
-    tree-refused (args· .tree .now) (expect· .ensures .same) (enum-told· .given .1)
-
-number-at-requires : tie.Need-number-at-requires
-number-at-requires c κs = search needs
-
-returns-2 : tie.Need-returns-2
-returns-2 c =
-    let args· = c .before .before .before .before .before .before .before .args in
-    let expect· = c .before .before .before .before .before .expect in
-    let w· = c .before .before .before .w in
-    let number-at· = c .before .number-at in
-    let if1· = c .if1 in
-    many-names (args· .tree .now) (expect· .ensures .same) (w· .given .1) (number-at· .ensures) (if1· .taken)
-
-wide-requires : tie.Need-wide-requires
-wide-requires c κs = search needs
-
-mul-root : tie.Need-mul-root
-mul-root c = search needs
 
 add-root : tie.Need-add-root
 unfolding mark-of find-mark marks choose code size-of numbers-of widths width fields
@@ -52,8 +18,30 @@ add-root c =
     let if1· = c .before .if1 in
     let k = expect· .ensures .within _ (w· .given .1) in omega (arith, k .size, wide· .ensures .0, if1· .left)
 
-returns-3 : tie.Need-returns-3
-returns-3 c =
+pub first-walk-spec : {M : Type 1} → statement M
+first-walk-spec =
+    tie.close
+    (tie.spec
+    (λ c κs. search needs)  -- expect-requires
+    (λ c. search needs)  -- enum-known-w
+    (λ c. search needs)  -- enum-told
+    (λ c.  -- returns
+    let args· = c .before .before .before .before .args in
+    let expect· = c .before .before .expect in
+    let enum-told· = c .enum-told in
+    tree-refused (args· .tree .now) (expect· .ensures .same) (enum-told· .given .1))
+    (λ c κs. search needs)  -- number-at-requires
+    (λ c.  -- returns-2
+    let args· = c .before .before .before .before .before .before .before .args in
+    let expect· = c .before .before .before .before .before .expect in
+    let w· = c .before .before .before .w in
+    let number-at· = c .before .number-at in
+    let if1· = c .if1 in
+    many-names (args· .tree .now) (expect· .ensures .same) (w· .given .1) (number-at· .ensures) (if1· .taken))
+    (λ c κs. search needs)  -- wide-requires
+    (λ c. search needs)  -- mul-root
+    add-root
+    (λ c.  -- returns-3
     let args· = c .before .before .before .before .before .before .before .before .before .args in
     let expect· = c .before .before .before .before .before .before .before .expect in
     let w· = c .before .before .before .before .before .w in
@@ -61,19 +49,11 @@ returns-3 c =
     let if1· = c .before .before .if1 in
     let wide· = c .before .wide in
     let if2· = c .if2 in
-    names-missing (args· .tree .now) (expect· .ensures .same) (w· .given .1) (number-at· .ensures) (if1· .left) (wide· .ensures .0) (if2· .taken)
-
-walk-expr-requires : tie.Need-walk-expr-requires
-walk-expr-requires c κs = search needs
-
-enum-known-e : tie.Need-enum-known-e
-enum-known-e c = search needs
-
-enum-told-2 : tie.Need-enum-told-2
-enum-told-2 c = search needs
-
-returns-4 : tie.Need-returns-4
-returns-4 c =
+    names-missing (args· .tree .now) (expect· .ensures .same) (w· .given .1) (number-at· .ensures) (if1· .left) (wide· .ensures .0) (if2· .taken))
+    (λ c κs. search needs)  -- walk-expr-requires
+    (λ c. search needs)  -- enum-known-e
+    (λ c. search needs)  -- enum-told-2
+    (λ c.  -- returns-4
     let args· = c .before .before .before .before .before .before .before .before .before .before .before .before .args in
     let expect· = c .before .before .before .before .before .before .before .before .before .before .expect in
     let w· = c .before .before .before .before .before .before .before .before .w in
@@ -83,10 +63,8 @@ returns-4 c =
     let if2· = c .before .before .before .if2 in
     let walk-expr· = c .before .before .walk-expr in
     let enum-told2· = c .enum-told2 in
-    root-refused (args· .tree .now) (expect· .ensures .same) (w· .given .1) (number-at· .ensures) (if1· .left) (wide· .ensures .0) (if2· .left) (walk-expr· .ensures) (enum-told2· .given .1)
-
-returns-5 : tie.Need-returns-5
-returns-5 c =
+    root-refused (args· .tree .now) (expect· .ensures .same) (w· .given .1) (number-at· .ensures) (if1· .left) (wide· .ensures .0) (if2· .left) (walk-expr· .ensures) (enum-told2· .given .1))
+    (λ c.  -- returns-5
     let args· = c .before .before .before .before .before .before .before .before .before .before .before .before .before .before .args in
     let expect· = c .before .before .before .before .before .before .before .before .before .before .before .before .expect in
     let w· = c .before .before .before .before .before .before .before .before .before .before .w in
@@ -97,10 +75,8 @@ returns-5 c =
     let walk-expr· = c .before .before .before .before .walk-expr in
     let e· = c .before .before .e in
     let if3· = c .if3 in
-    bytes-follow (args· .tree .now) (expect· .ensures .same) (w· .given .1) (number-at· .ensures) (if1· .left) (wide· .ensures .0) (if2· .left) (walk-expr· .ensures) (e· .given .1) (if3· .taken)
-
-returns-6 : tie.Need-returns-6
-returns-6 c =
+    bytes-follow (args· .tree .now) (expect· .ensures .same) (w· .given .1) (number-at· .ensures) (if1· .left) (wide· .ensures .0) (if2· .left) (walk-expr· .ensures) (e· .given .1) (if3· .taken))
+    (λ c.  -- returns-6
     let args· = c .before .before .before .before .before .before .before .before .before .before .before .before .before .before .args in
     let expect· = c .before .before .before .before .before .before .before .before .before .before .before .before .expect in
     let w· = c .before .before .before .before .before .before .before .before .before .before .w in
@@ -111,25 +87,4 @@ returns-6 c =
     let walk-expr· = c .before .before .before .before .walk-expr in
     let e· = c .before .before .e in
     let if3· = c .if3 in
-    all-read (args· .tree .now) (expect· .ensures .same) (w· .given .1) (number-at· .ensures) (if1· .left) (wide· .ensures .0) (if2· .left) (walk-expr· .ensures) (e· .given .1) (if3· .left)
-
-pub first-walk-spec : {M : Type 1} → statement M
-first-walk-spec =
-    tie.close
-    (tie.spec
-    expect-requires
-    enum-known-w
-    enum-told
-    returns
-    number-at-requires
-    returns-2
-    wide-requires
-    mul-root
-    add-root
-    returns-3
-    walk-expr-requires
-    enum-known-e
-    enum-told-2
-    returns-4
-    returns-5
-    returns-6)
+    all-read (args· .tree .now) (expect· .ensures .same) (w· .given .1) (number-at· .ensures) (if1· .left) (wide· .ensures .0) (if2· .left) (walk-expr· .ensures) (e· .given .1) (if3· .left)))

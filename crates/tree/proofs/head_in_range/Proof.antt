@@ -8,9 +8,6 @@ use borrow.Author.Needs.{needs}
 use Rattle.tree.proofs.head_in_range.Statement.{statement}
 use Rattle.tree.proofs.head_in_range.Tie as tie
 
-number-at-requires : tie.Need-number-at-requires
-number-at-requires c κs = search needs
-
 returns : tie.Need-returns
 unfolding all-in-range in-range width fields numbers-at choose
 returns c =
@@ -18,9 +15,6 @@ returns c =
     let number-at· = c .before .number-at in
     let if1· = c .if1 in
     rw (le-ltb (number-at (args· .bytes .now) 2) 2 (rw (number-at· .ensures) at (if1· .taken)))
-
-number-at-requires-2 : tie.Need-number-at-requires-2
-number-at-requires-2 c κs = search needs
 
 returns-2 : tie.Need-returns-2
 unfolding all-in-range in-range width fields numbers-at choose
@@ -31,9 +25,6 @@ returns-2 c =
     let number-at2· = c .before .number-at2 in
     let if2· = c .if2 in
     rw (lt-ltb (number-at (args· .bytes .now) 2) 2 (rw (number-at· .ensures) at (if1· .left)), le-ltb (number-at (args· .bytes .now) 14) 2 (rw (number-at2· .ensures) at (if2· .taken)))
-
-number-at-requires-3 : tie.Need-number-at-requires-3
-number-at-requires-3 c κs = search needs
 
 returns-3 : tie.Need-returns-3
 unfolding all-in-range in-range width fields numbers-at choose
@@ -46,9 +37,6 @@ returns-3 c =
     let number-at3· = c .before .number-at3 in
     let if3· = c .if3 in
     rw (lt-ltb (number-at (args· .bytes .now) 2) 2 (rw (number-at· .ensures) at (if1· .left)), lt-ltb (number-at (args· .bytes .now) 14) 2 (rw (number-at2· .ensures) at (if2· .left)), le-ltb (number-at (args· .bytes .now) 18) 3 (rw (number-at3· .ensures) at (if3· .taken)))
-
-number-at-requires-4 : tie.Need-number-at-requires-4
-number-at-requires-4 c κs = search needs
 
 returns-4 : tie.Need-returns-4
 unfolding all-in-range in-range width fields numbers-at choose
@@ -67,11 +55,11 @@ pub head-in-range-spec : {M : Type 1} → statement M
 head-in-range-spec =
     tie.close
     (tie.spec
-    number-at-requires
+    (λ c κs. search needs)  -- number-at-requires
     returns
-    number-at-requires-2
+    (λ c κs. search needs)  -- number-at-requires-2
     returns-2
-    number-at-requires-3
+    (λ c κs. search needs)  -- number-at-requires-3
     returns-3
-    number-at-requires-4
+    (λ c κs. search needs)  -- number-at-requires-4
     returns-4)

@@ -3,41 +3,14 @@ use mathlib.Core.Path.{_≡_, refl}
 use mathlib.Core.Bool.{true}
 use Rattle.rules.specs.Outcome.{choose}
 use Rattle.rules.specs.Numbers.{Mark, code}
-use Rattle.marks.specs.Marks.{mark-of, find-mark, marks}
+use Rattle.bytes_records.specs.Marks.{mark-of, find-mark, marks}
 use Rattle.rules.specs.Numbers.{numbers-at}
 use Rattle.rules.specs.Records.{all-in-range, in-range, numbers-of, widths, width, fields}
-use Rattle.marks.proofs.Laws.{mark-all, all-none, _also_}
+use Rattle.bytes_records.proofs.Laws.{mark-all, all-none, _also_}
 use Rattle.tree.proofs.Laws.{chosen-test}
 use borrow.Author.Needs.{needs}
 use Rattle.tree.proofs.in_range.Statement.{statement}
 use Rattle.tree.proofs.in_range.Tie as tie
-
-number-at-requires : tie.Need-number-at-requires
-number-at-requires c κs = search needs
-
-number-at-requires-2 : tie.Need-number-at-requires-2
-number-at-requires-2 c κs = search needs
-
-number-at-requires-3 : tie.Need-number-at-requires-3
-number-at-requires-3 c κs = search needs
-
-number-at-requires-4 : tie.Need-number-at-requires-4
-number-at-requires-4 c κs = search needs
-
-number-at-requires-5 : tie.Need-number-at-requires-5
-number-at-requires-5 c κs = search needs
-
-number-at-requires-6 : tie.Need-number-at-requires-6
-number-at-requires-6 c κs = search needs
-
-number-at-requires-7 : tie.Need-number-at-requires-7
-number-at-requires-7 c κs = search needs
-
-number-at-requires-8 : tie.Need-number-at-requires-8
-number-at-requires-8 c κs = search needs
-
-head-in-range-requires : tie.Need-head-in-range-requires
-head-in-range-requires c κs = search needs
 
 returns : tie.Need-returns
 unfolding mark-of find-mark marks choose code all-in-range in-range numbers-of widths width fields numbers-at
@@ -101,15 +74,15 @@ pub in-range-spec : {M : Type 1} → statement M
 in-range-spec =
     tie.close
     (tie.spec
-    number-at-requires
-    number-at-requires-2
-    number-at-requires-3
-    number-at-requires-4
-    number-at-requires-5
-    number-at-requires-6
-    number-at-requires-7
-    number-at-requires-8
-    head-in-range-requires
+    (λ c κs. search needs)  -- number-at-requires
+    (λ c κs. search needs)  -- number-at-requires-2
+    (λ c κs. search needs)  -- number-at-requires-3
+    (λ c κs. search needs)  -- number-at-requires-4
+    (λ c κs. search needs)  -- number-at-requires-5
+    (λ c κs. search needs)  -- number-at-requires-6
+    (λ c κs. search needs)  -- number-at-requires-7
+    (λ c κs. search needs)  -- number-at-requires-8
+    (λ c κs. search needs)  -- head-in-range-requires
     returns
     returns-2
     returns-3

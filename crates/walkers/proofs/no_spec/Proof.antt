@@ -1,15 +1,9 @@
 -- `no_spec` tells a refusal on. Assumes nothing.
 use mathlib.Core.Path.{sym, ap}
 use borrow.Author.Needs.{needs}
-use Rattle.joins.specs.Ready.{no-spec}
+use Rattle.law_joins.specs.Ready.{no-spec}
 use Rattle.walkers.proofs.no_spec.Statement.{statement}
 use Rattle.walkers.proofs.no_spec.Tie as tie
-
-enum-known-w : tie.Need-enum-known-w
-enum-known-w c = search needs
-
-enum-known-w-2 : tie.Need-enum-known-w-2
-enum-known-w-2 c = search needs
 
 returns : tie.Need-returns
 unfolding no-spec
@@ -20,4 +14,8 @@ unfolding no-spec
 returns-2 c = sym (ap no-spec (c .before .w2 .given .1))
 
 pub no-spec-spec : {M : Type 1} → statement M
-no-spec-spec = tie.close (tie.spec enum-known-w enum-known-w-2 returns returns-2)
+no-spec-spec = tie.close (tie.spec
+    (λ c. search needs)  -- enum-known-w
+    (λ c. search needs)  -- enum-known-w-2
+    returns
+    returns-2)

@@ -1,15 +1,9 @@
 -- `no_value` tells a refusal on. Assumes nothing.
 use mathlib.Core.Path.{sym, ap}
 use borrow.Author.Needs.{needs}
-use Rattle.joins.specs.Ready.{no-value}
+use Rattle.law_joins.specs.Ready.{no-value}
 use Rattle.walkers.proofs.no_value.Statement.{statement}
 use Rattle.walkers.proofs.no_value.Tie as tie
-
-enum-known-step : tie.Need-enum-known-step
-enum-known-step c = search needs
-
-enum-known-step-2 : tie.Need-enum-known-step-2
-enum-known-step-2 c = search needs
 
 returns : tie.Need-returns
 unfolding no-value
@@ -20,4 +14,8 @@ unfolding no-value
 returns-2 c = sym (ap no-value (c .before .step2 .given .1))
 
 pub no-value-spec : {M : Type 1} → statement M
-no-value-spec = tie.close (tie.spec enum-known-step enum-known-step-2 returns returns-2)
+no-value-spec = tie.close (tie.spec
+    (λ c. search needs)  -- enum-known-step
+    (λ c. search needs)  -- enum-known-step-2
+    returns
+    returns-2)

@@ -1,15 +1,9 @@
 -- `not_opened` tells a refusal on. Assumes nothing.
 use mathlib.Core.Path.{sym, ap}
 use borrow.Author.Needs.{needs}
-use Rattle.joins.specs.Ready.{not-opened}
+use Rattle.law_joins.specs.Ready.{not-opened}
 use Rattle.walkers.proofs.not_opened.Statement.{statement}
 use Rattle.walkers.proofs.not_opened.Tie as tie
-
-enum-known-step : tie.Need-enum-known-step
-enum-known-step c = search needs
-
-enum-known-step-2 : tie.Need-enum-known-step-2
-enum-known-step-2 c = search needs
 
 returns : tie.Need-returns
 unfolding not-opened
@@ -20,4 +14,8 @@ unfolding not-opened
 returns-2 c = sym (ap not-opened (c .before .step2 .given .1))
 
 pub not-opened-spec : {M : Type 1} → statement M
-not-opened-spec = tie.close (tie.spec enum-known-step enum-known-step-2 returns returns-2)
+not-opened-spec = tie.close (tie.spec
+    (λ c. search needs)  -- enum-known-step
+    (λ c. search needs)  -- enum-known-step-2
+    returns
+    returns-2)

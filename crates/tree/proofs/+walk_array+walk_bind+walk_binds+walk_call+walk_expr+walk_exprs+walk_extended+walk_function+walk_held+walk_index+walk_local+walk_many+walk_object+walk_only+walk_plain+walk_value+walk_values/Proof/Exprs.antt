@@ -3,46 +3,23 @@ use Prim.Native.Nat.{ℕ, _-_}
 use borrow.Author.Needs.{needs}
 use native.Mathlib.Omega.{arith}
 use Rattle.rules.specs.FirstWalk.{any-expression}
-use Rattle.skipping.specs.Places.{over, expr-past, exprs-past}
+use Rattle.bytes_skip.specs.Places.{over, expr-past, exprs-past}
 use Rattle.tree.proofs.Turns.{Turn, turn-begin, turn-stop, turn-next, turn-end}
 use Rattle.tree.proofs.walk_expr.Reads as walk-expr
 use Rattle.tree.proofs.walk_exprs.Reads as walk-exprs
 use Rattle.tree.proofs.+walk_array+walk_bind+walk_binds+walk_call+walk_expr+walk_exprs+walk_extended+walk_function+walk_held+walk_index+walk_local+walk_many+walk_object+walk_only+walk_plain+walk_value+walk_values.Lts-walk_exprs as walk-exprs-lts
 use Rattle.tree.proofs.+walk_array+walk_bind+walk_binds+walk_call+walk_expr+walk_exprs+walk_extended+walk_function+walk_held+walk_index+walk_local+walk_many+walk_object+walk_only+walk_plain+walk_value+walk_values.Proof.Measures.{walk-expr-below, walk-exprs-at}
 
+-- what the members and functions that it calls ask and promise
+abbrev called : (t : ℕ) → walk-exprs-lts.Claims
+called t =
+    (walk-expr-below t, walk-expr.Post)
+
 abbrev walk-exprs-Inv-loop : walk-exprs-lts.InvT-loop
 walk-exprs-Inv-loop tree at nest n p₀ i₀ p i = Turn (expr-past tree nest any-expression) (over n (expr-past tree nest any-expression) at) n i p
 
 abbrev walk-exprs-μ-loop : walk-exprs-lts.MeasureT-loop
 walk-exprs-μ-loop tree at nest n p₀ i₀ p i = n - i
-
-walk-exprs-loop-holds : (t : ℕ) → walk-exprs-lts.Need-loop-holds (
-  walk-expr-below t,
-  walk-expr.Post,
-) (walk-exprs-at t) walk-exprs.Post walk-exprs-Inv-loop walk-exprs-μ-loop
-walk-exprs-loop-holds t c =
-    let args· = c .before .args in
-    turn-begin (expr-past (args· .tree .now) (args· .nest) any-expression) (args· .n) (args· .at)
-
-walk-exprs-walk-expr-requires : (t : ℕ) → walk-exprs-lts.Need-walk-expr-requires (
-  walk-expr-below t,
-  walk-expr.Post,
-) (walk-exprs-at t) walk-exprs.Post walk-exprs-Inv-loop walk-exprs-μ-loop
-walk-exprs-walk-expr-requires t c κs =
-    let pre· = c .before .before .before .pre in
-    (omega (arith, pre· .0), search needs)
-
-walk-exprs-enum-known-w : (t : ℕ) → walk-exprs-lts.Need-enum-known-w (
-  walk-expr-below t,
-  walk-expr.Post,
-) (walk-exprs-at t) walk-exprs.Post walk-exprs-Inv-loop walk-exprs-μ-loop
-walk-exprs-enum-known-w t c = search needs
-
-walk-exprs-enum-known-w-2 : (t : ℕ) → walk-exprs-lts.Need-enum-known-w-2 (
-  walk-expr-below t,
-  walk-expr.Post,
-) (walk-exprs-at t) walk-exprs.Post walk-exprs-Inv-loop walk-exprs-μ-loop
-walk-exprs-enum-known-w-2 t c = search needs
 
 walk-exprs-returns :
     (t : ℕ) →
@@ -61,30 +38,7 @@ walk-exprs-returns t c =
     let w2· = c .before .w2 in
     turn-stop (expr-past (args· .tree .now) (args· .nest) any-expression) (loop· .inv) (loop-test· .taken) (walk-expr· .ensures) (w2· .given .1)
 
-walk-exprs-add-i :
-    (t : ℕ) →
-    walk-exprs-lts.Need-add-i
-    (walk-expr-below t, walk-expr.Post)
-    (walk-exprs-at t)
-    walk-exprs.Post
-    walk-exprs-Inv-loop
-    walk-exprs-μ-loop
-walk-exprs-add-i t c = search needs
-
-walk-exprs-loop-less :
-    (t : ℕ) →
-    walk-exprs-lts.Need-loop-less
-    (walk-expr-below t, walk-expr.Post)
-    (walk-exprs-at t)
-    walk-exprs.Post
-    walk-exprs-Inv-loop
-    walk-exprs-μ-loop
-walk-exprs-loop-less t c = search needs
-
-walk-exprs-loop-again : (t : ℕ) → walk-exprs-lts.Need-loop-again (
-  walk-expr-below t,
-  walk-expr.Post,
-) (walk-exprs-at t) walk-exprs.Post walk-exprs-Inv-loop walk-exprs-μ-loop
+walk-exprs-loop-again : (t : ℕ) → walk-exprs-lts.Need-loop-again (called t) (walk-exprs-at t) walk-exprs.Post walk-exprs-Inv-loop walk-exprs-μ-loop
 unfolding exprs-past expr-past
 walk-exprs-loop-again t c =
     let args· = c .before .before .before .before .before .before .before .args in
@@ -116,12 +70,16 @@ walk-exprs-met t = walk-exprs-lts.spec
     walk-exprs.Post
     walk-exprs-Inv-loop
     walk-exprs-μ-loop
-    (walk-exprs-loop-holds t)
-    (walk-exprs-walk-expr-requires t)
-    (walk-exprs-enum-known-w t)
-    (walk-exprs-enum-known-w-2 t)
+    (λ c.  -- loop-holds
+    let args· = c .before .args in
+    turn-begin (expr-past (args· .tree .now) (args· .nest) any-expression) (args· .n) (args· .at))
+    (λ c κs.  -- walk-expr-requires
+    let pre· = c .before .before .before .pre in
+    (omega (arith, pre· .0), search needs))
+    (λ c. search needs)  -- enum-known-w
+    (λ c. search needs)  -- enum-known-w-2
     (walk-exprs-returns t)
-    (walk-exprs-add-i t)
-    (walk-exprs-loop-less t)
+    (λ c. search needs)  -- add-i
+    (λ c. search needs)  -- loop-less
     (walk-exprs-loop-again t)
     (walk-exprs-returns-2 t)

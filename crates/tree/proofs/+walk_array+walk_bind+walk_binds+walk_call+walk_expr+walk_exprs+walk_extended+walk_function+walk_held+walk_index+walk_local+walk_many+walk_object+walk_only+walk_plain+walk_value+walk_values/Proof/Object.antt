@@ -5,7 +5,7 @@ use native.Mathlib.Omega.{arith}
 use Rattle.rules.specs.Outcome.{choose}
 use Rattle.rules.specs.Numbers.{code}
 use Rattle.rules.specs.Records.{size-of, numbers-of, widths, width, fields}
-use Rattle.marks.specs.Marks.{mark-of, find-mark, marks}
+use Rattle.bytes_records.specs.Marks.{mark-of, find-mark, marks}
 use Rattle.tree.proofs.Binding.{ends}
 use Rattle.tree.proofs.Walks.{object-refused, heads-refused, locals-refused, assertions-refused, object-went}
 use Rattle.tree.proofs.walk_binds.Reads as walk-binds
@@ -13,11 +13,13 @@ use Rattle.tree.proofs.walk_many.Reads as walk-many
 use Rattle.tree.proofs.walk_object.Reads as walk-object
 use Rattle.tree.proofs.+walk_array+walk_bind+walk_binds+walk_call+walk_expr+walk_exprs+walk_extended+walk_function+walk_held+walk_index+walk_local+walk_many+walk_object+walk_only+walk_plain+walk_value+walk_values.Lts-walk_object as walk-object-lts
 use Rattle.tree.proofs.walk_values.Reads as walk-values
-use Rattle.packed.proofs.number_at.Reads as number-at-reads
+use Rattle.bytes_read.proofs.number_at.Reads as number-at-reads
 use Rattle.tree.proofs.opened.Reads as opened-reads
 use Rattle.tree.proofs.+walk_array+walk_bind+walk_binds+walk_call+walk_expr+walk_exprs+walk_extended+walk_function+walk_held+walk_index+walk_local+walk_many+walk_object+walk_only+walk_plain+walk_value+walk_values.Proof.Measures.{walk-binds-below, walk-many-below, walk-object-at, walk-values-below}
 
-walk-object-opened-requires : (t : ℕ) → walk-object-lts.Need-opened-requires (
+-- what the members and functions that it calls ask and promise
+abbrev called : (t : ℕ) → walk-object-lts.Claims
+called t = (
   opened-reads.Asked,
   opened-reads.Learnt,
   number-at-reads.Asked,
@@ -28,279 +30,77 @@ walk-object-opened-requires : (t : ℕ) → walk-object-lts.Need-opened-requires
   walk-binds.Post,
   walk-values-below t,
   walk-values.Post,
-) (walk-object-at t) walk-object.Post
-walk-object-opened-requires t c κs = search needs
+)
 
-walk-object-enum-known-w : (t : ℕ) → walk-object-lts.Need-enum-known-w (
-  opened-reads.Asked,
-  opened-reads.Learnt,
-  number-at-reads.Asked,
-  number-at-reads.Learnt,
-  walk-many-below t,
-  walk-many.Post,
-  walk-binds-below t,
-  walk-binds.Post,
-  walk-values-below t,
-  walk-values.Post,
-) (walk-object-at t) walk-object.Post
-walk-object-enum-known-w t c = search needs
-
-walk-object-enum-told : (t : ℕ) → walk-object-lts.Need-enum-told (
-  opened-reads.Asked,
-  opened-reads.Learnt,
-  number-at-reads.Asked,
-  number-at-reads.Learnt,
-  walk-many-below t,
-  walk-many.Post,
-  walk-binds-below t,
-  walk-binds.Post,
-  walk-values-below t,
-  walk-values.Post,
-) (walk-object-at t) walk-object.Post
-walk-object-enum-told t c = search needs
-
-walk-object-returns : (t : ℕ) → walk-object-lts.Need-returns (
-  opened-reads.Asked,
-  opened-reads.Learnt,
-  number-at-reads.Asked,
-  number-at-reads.Learnt,
-  walk-many-below t,
-  walk-many.Post,
-  walk-binds-below t,
-  walk-binds.Post,
-  walk-values-below t,
-  walk-values.Post,
-) (walk-object-at t) walk-object.Post
-walk-object-returns t c =
-    let args· = c .before .before .before .before .args in
-    let opened· = c .before .before .opened in
-    let enum-told· = c .enum-told in
-    object-refused (args· .tree .now) (args· .nest) (args· .at) (opened· .ensures .same) (enum-told· .given .1)
-
-walk-object-add-number-at : (t : ℕ) → walk-object-lts.Need-add-number-at (
-  opened-reads.Asked,
-  opened-reads.Learnt,
-  number-at-reads.Asked,
-  number-at-reads.Learnt,
-  walk-many-below t,
-  walk-many.Post,
-  walk-binds-below t,
-  walk-binds.Post,
-  walk-values-below t,
-  walk-values.Post,
-) (walk-object-at t) walk-object.Post
+walk-object-add-number-at : (t : ℕ) → walk-object-lts.Need-add-number-at (called t) (walk-object-at t) walk-object.Post
 unfolding mark-of find-mark marks choose code size-of numbers-of widths width fields
 walk-object-add-number-at t c =
     let opened· = c .before .before .before .opened in
     let w· = c .before .w in
     let k = opened· .ensures .within _ (w· .given .1) in omega (arith, k .size, k .fits)
 
-walk-object-number-at-requires : (t : ℕ) → walk-object-lts.Need-number-at-requires (
-  opened-reads.Asked,
-  opened-reads.Learnt,
-  number-at-reads.Asked,
-  number-at-reads.Learnt,
-  walk-many-below t,
-  walk-many.Post,
-  walk-binds-below t,
-  walk-binds.Post,
-  walk-values-below t,
-  walk-values.Post,
-) (walk-object-at t) walk-object.Post
-walk-object-number-at-requires t c κs = search needs
-
-walk-object-sub-walk-many : (t : ℕ) → walk-object-lts.Need-sub-walk-many (
-  opened-reads.Asked,
-  opened-reads.Learnt,
-  number-at-reads.Asked,
-  number-at-reads.Learnt,
-  walk-many-below t,
-  walk-many.Post,
-  walk-binds-below t,
-  walk-binds.Post,
-  walk-values-below t,
-  walk-values.Post,
-) (walk-object-at t) walk-object.Post
-walk-object-sub-walk-many t c =
-    let opened· = c .before .before .before .before .opened in
-    let w· = c .before .before .w in
-    omega (arith, opened· .ensures .level _ (w· .given .1))
-
-walk-object-walk-many-requires : (t : ℕ) → walk-object-lts.Need-walk-many-requires (
-  opened-reads.Asked,
-  opened-reads.Learnt,
-  number-at-reads.Asked,
-  number-at-reads.Learnt,
-  walk-many-below t,
-  walk-many.Post,
-  walk-binds-below t,
-  walk-binds.Post,
-  walk-values-below t,
-  walk-values.Post,
-) (walk-object-at t) walk-object.Post
-walk-object-walk-many-requires t c κs =
-    let pre· = c .before .before .before .before .before .before .pre in
-    let opened· = c .before .before .before .before .opened in
-    let w· = c .before .before .w in
-    (omega (arith, pre· .0, opened· .ensures .level _ (w· .given .1)), search needs)
-
-walk-object-enum-known-b : (t : ℕ) → walk-object-lts.Need-enum-known-b (
-  opened-reads.Asked,
-  opened-reads.Learnt,
-  number-at-reads.Asked,
-  number-at-reads.Learnt,
-  walk-many-below t,
-  walk-many.Post,
-  walk-binds-below t,
-  walk-binds.Post,
-  walk-values-below t,
-  walk-values.Post,
-) (walk-object-at t) walk-object.Post
-walk-object-enum-known-b t c = search needs
-
-walk-object-enum-told-2 : (t : ℕ) → walk-object-lts.Need-enum-told-2 (
-  opened-reads.Asked,
-  opened-reads.Learnt,
-  number-at-reads.Asked,
-  number-at-reads.Learnt,
-  walk-many-below t,
-  walk-many.Post,
-  walk-binds-below t,
-  walk-binds.Post,
-  walk-values-below t,
-  walk-values.Post,
-) (walk-object-at t) walk-object.Post
-walk-object-enum-told-2 t c = search needs
-
-walk-object-returns-2 : (t : ℕ) → walk-object-lts.Need-returns-2 (
-  opened-reads.Asked,
-  opened-reads.Learnt,
-  number-at-reads.Asked,
-  number-at-reads.Learnt,
-  walk-many-below t,
-  walk-many.Post,
-  walk-binds-below t,
-  walk-binds.Post,
-  walk-values-below t,
-  walk-values.Post,
-) (walk-object-at t) walk-object.Post
-walk-object-returns-2 t c =
-    let args· = c .before .before .before .before .before .before .before .before .before .args in
-    let opened· = c .before .before .before .before .before .before .before .opened in
-    let w· = c .before .before .before .before .before .w in
-    let number-at· = c .before .before .before .number-at in
-    let walk-many· = c .before .before .walk-many in
-    let enum-told2· = c .enum-told2 in
-    heads-refused (args· .tree .now) (args· .nest) (args· .at) (opened· .ensures .same) (w· .given .1) (number-at· .ensures) (walk-many· .ensures) (enum-told2· .given .1)
-
-walk-object-sub-walk-binds : (t : ℕ) → walk-object-lts.Need-sub-walk-binds (
-  opened-reads.Asked,
-  opened-reads.Learnt,
-  number-at-reads.Asked,
-  number-at-reads.Learnt,
-  walk-many-below t,
-  walk-many.Post,
-  walk-binds-below t,
-  walk-binds.Post,
-  walk-values-below t,
-  walk-values.Post,
-) (walk-object-at t) walk-object.Post
-walk-object-sub-walk-binds t c =
-    let opened· = c .before .before .before .before .before .before .before .before .opened in
-    let w· = c .before .before .before .before .before .before .w in
-    omega (arith, opened· .ensures .level _ (w· .given .1))
-
-walk-object-add-number-at-2 : (t : ℕ) → walk-object-lts.Need-add-number-at-2 (
-  opened-reads.Asked,
-  opened-reads.Learnt,
-  number-at-reads.Asked,
-  number-at-reads.Learnt,
-  walk-many-below t,
-  walk-many.Post,
-  walk-binds-below t,
-  walk-binds.Post,
-  walk-values-below t,
-  walk-values.Post,
-) (walk-object-at t) walk-object.Post
+walk-object-add-number-at-2 : (t : ℕ) → walk-object-lts.Need-add-number-at-2 (called t) (walk-object-at t) walk-object.Post
 unfolding mark-of find-mark marks choose code size-of numbers-of widths width fields
 walk-object-add-number-at-2 t c =
     let opened· = c .before .before .before .before .before .before .before .before .opened in
     let w· = c .before .before .before .before .before .before .w in
     let k = opened· .ensures .within _ (w· .given .1) in omega (arith, k .size, k .fits)
 
-walk-object-number-at-requires-2 : (t : ℕ) → walk-object-lts.Need-number-at-requires-2 (
-  opened-reads.Asked,
-  opened-reads.Learnt,
-  number-at-reads.Asked,
-  number-at-reads.Learnt,
-  walk-many-below t,
-  walk-many.Post,
-  walk-binds-below t,
-  walk-binds.Post,
-  walk-values-below t,
-  walk-values.Post,
-) (walk-object-at t) walk-object.Post
-walk-object-number-at-requires-2 t c κs = search needs
+walk-object-add-number-at-3 : (t : ℕ) → walk-object-lts.Need-add-number-at-3 (called t) (walk-object-at t) walk-object.Post
+unfolding mark-of find-mark marks choose code size-of numbers-of widths width fields
+walk-object-add-number-at-3 t c =
+    let opened· = c .before .before .before .before .before .before .before .before .before .before .before .before .before .opened in
+    let w· = c .before .before .before .before .before .before .before .before .before .before .before .w in
+    let k = opened· .ensures .within _ (w· .given .1) in omega (arith, k .size, k .fits)
 
-walk-object-walk-binds-requires : (t : ℕ) → walk-object-lts.Need-walk-binds-requires (
-  opened-reads.Asked,
-  opened-reads.Learnt,
-  number-at-reads.Asked,
-  number-at-reads.Learnt,
-  walk-many-below t,
-  walk-many.Post,
-  walk-binds-below t,
-  walk-binds.Post,
-  walk-values-below t,
-  walk-values.Post,
-) (walk-object-at t) walk-object.Post
-walk-object-walk-binds-requires t c κs =
+pub walk-object-met : {M : Type 1} (t : ℕ) → walk-object-lts.Closed (called t) (walk-object-at t) walk-object.Post M
+walk-object-met t = walk-object-lts.spec
+    (called t)
+    (walk-object-at t)
+    walk-object.Post
+    (λ c κs. search needs)  -- opened-requires
+    (λ c. search needs)  -- enum-known-w
+    (λ c. search needs)  -- enum-told
+    (λ c.  -- returns
+    let args· = c .before .before .before .before .args in
+    let opened· = c .before .before .opened in
+    let enum-told· = c .enum-told in
+    object-refused (args· .tree .now) (args· .nest) (args· .at) (opened· .ensures .same) (enum-told· .given .1))
+    (walk-object-add-number-at t)
+    (λ c κs. search needs)  -- number-at-requires
+    (λ c.  -- sub-walk-many
+    let opened· = c .before .before .before .before .opened in
+    let w· = c .before .before .w in
+    omega (arith, opened· .ensures .level _ (w· .given .1)))
+    (λ c κs.  -- walk-many-requires
+    let pre· = c .before .before .before .before .before .before .pre in
+    let opened· = c .before .before .before .before .opened in
+    let w· = c .before .before .w in
+    (omega (arith, pre· .0, opened· .ensures .level _ (w· .given .1)), search needs))
+    (λ c. search needs)  -- enum-known-b
+    (λ c. search needs)  -- enum-told-2
+    (λ c.  -- returns-2
+    let args· = c .before .before .before .before .before .before .before .before .before .args in
+    let opened· = c .before .before .before .before .before .before .before .opened in
+    let w· = c .before .before .before .before .before .w in
+    let number-at· = c .before .before .before .number-at in
+    let walk-many· = c .before .before .walk-many in
+    let enum-told2· = c .enum-told2 in
+    heads-refused (args· .tree .now) (args· .nest) (args· .at) (opened· .ensures .same) (w· .given .1) (number-at· .ensures) (walk-many· .ensures) (enum-told2· .given .1))
+    (λ c.  -- sub-walk-binds
+    let opened· = c .before .before .before .before .before .before .before .before .opened in
+    let w· = c .before .before .before .before .before .before .w in
+    omega (arith, opened· .ensures .level _ (w· .given .1)))
+    (walk-object-add-number-at-2 t)
+    (λ c κs. search needs)  -- number-at-requires-2
+    (λ c κs.  -- walk-binds-requires
     let pre· = c .before .before .before .before .before .before .before .before .before .before .before .pre in
     let opened· = c .before .before .before .before .before .before .before .before .before .opened in
     let w· = c .before .before .before .before .before .before .before .w in
-    (omega (arith, pre· .0, opened· .ensures .level _ (w· .given .1)), search needs)
-
-walk-object-enum-known-l : (t : ℕ) → walk-object-lts.Need-enum-known-l (
-  opened-reads.Asked,
-  opened-reads.Learnt,
-  number-at-reads.Asked,
-  number-at-reads.Learnt,
-  walk-many-below t,
-  walk-many.Post,
-  walk-binds-below t,
-  walk-binds.Post,
-  walk-values-below t,
-  walk-values.Post,
-) (walk-object-at t) walk-object.Post
-walk-object-enum-known-l t c = search needs
-
-walk-object-enum-told-3 : (t : ℕ) → walk-object-lts.Need-enum-told-3 (
-  opened-reads.Asked,
-  opened-reads.Learnt,
-  number-at-reads.Asked,
-  number-at-reads.Learnt,
-  walk-many-below t,
-  walk-many.Post,
-  walk-binds-below t,
-  walk-binds.Post,
-  walk-values-below t,
-  walk-values.Post,
-) (walk-object-at t) walk-object.Post
-walk-object-enum-told-3 t c = search needs
-
-walk-object-returns-3 : (t : ℕ) → walk-object-lts.Need-returns-3 (
-  opened-reads.Asked,
-  opened-reads.Learnt,
-  number-at-reads.Asked,
-  number-at-reads.Learnt,
-  walk-many-below t,
-  walk-many.Post,
-  walk-binds-below t,
-  walk-binds.Post,
-  walk-values-below t,
-  walk-values.Post,
-) (walk-object-at t) walk-object.Post
-walk-object-returns-3 t c =
+    (omega (arith, pre· .0, opened· .ensures .level _ (w· .given .1)), search needs))
+    (λ c. search needs)  -- enum-known-l
+    (λ c. search needs)  -- enum-told-3
+    (λ c.  -- returns-3
     let args· = c .before .before .before .before .before .before .before .before .before .before .before .before .before .before .args in
     let opened· = c .before .before .before .before .before .before .before .before .before .before .before .before .opened in
     let w· = c .before .before .before .before .before .before .before .before .before .before .w in
@@ -310,116 +110,21 @@ walk-object-returns-3 t c =
     let number-at2· = c .before .before .before .number-at2 in
     let walk-binds· = c .before .before .walk-binds in
     let enum-told3· = c .enum-told3 in
-    locals-refused (args· .tree .now) (args· .nest) (args· .at) (opened· .ensures .same) (w· .given .1) (number-at· .ensures) (walk-many· .ensures) (b· .given .1) (number-at2· .ensures) (walk-binds· .ensures) (enum-told3· .given .1)
-
-walk-object-sub-walk-many-2 : (t : ℕ) → walk-object-lts.Need-sub-walk-many-2 (
-  opened-reads.Asked,
-  opened-reads.Learnt,
-  number-at-reads.Asked,
-  number-at-reads.Learnt,
-  walk-many-below t,
-  walk-many.Post,
-  walk-binds-below t,
-  walk-binds.Post,
-  walk-values-below t,
-  walk-values.Post,
-) (walk-object-at t) walk-object.Post
-walk-object-sub-walk-many-2 t c =
+    locals-refused (args· .tree .now) (args· .nest) (args· .at) (opened· .ensures .same) (w· .given .1) (number-at· .ensures) (walk-many· .ensures) (b· .given .1) (number-at2· .ensures) (walk-binds· .ensures) (enum-told3· .given .1))
+    (λ c.  -- sub-walk-many-2
     let opened· = c .before .before .before .before .before .before .before .before .before .before .before .before .before .opened in
     let w· = c .before .before .before .before .before .before .before .before .before .before .before .w in
-    omega (arith, opened· .ensures .level _ (w· .given .1))
-
-walk-object-add-number-at-3 : (t : ℕ) → walk-object-lts.Need-add-number-at-3 (
-  opened-reads.Asked,
-  opened-reads.Learnt,
-  number-at-reads.Asked,
-  number-at-reads.Learnt,
-  walk-many-below t,
-  walk-many.Post,
-  walk-binds-below t,
-  walk-binds.Post,
-  walk-values-below t,
-  walk-values.Post,
-) (walk-object-at t) walk-object.Post
-unfolding mark-of find-mark marks choose code size-of numbers-of widths width fields
-walk-object-add-number-at-3 t c =
-    let opened· = c .before .before .before .before .before .before .before .before .before .before .before .before .before .opened in
-    let w· = c .before .before .before .before .before .before .before .before .before .before .before .w in
-    let k = opened· .ensures .within _ (w· .given .1) in omega (arith, k .size, k .fits)
-
-walk-object-number-at-requires-3 : (t : ℕ) → walk-object-lts.Need-number-at-requires-3 (
-  opened-reads.Asked,
-  opened-reads.Learnt,
-  number-at-reads.Asked,
-  number-at-reads.Learnt,
-  walk-many-below t,
-  walk-many.Post,
-  walk-binds-below t,
-  walk-binds.Post,
-  walk-values-below t,
-  walk-values.Post,
-) (walk-object-at t) walk-object.Post
-walk-object-number-at-requires-3 t c κs = search needs
-
-walk-object-walk-many-requires-2 : (t : ℕ) → walk-object-lts.Need-walk-many-requires-2 (
-  opened-reads.Asked,
-  opened-reads.Learnt,
-  number-at-reads.Asked,
-  number-at-reads.Learnt,
-  walk-many-below t,
-  walk-many.Post,
-  walk-binds-below t,
-  walk-binds.Post,
-  walk-values-below t,
-  walk-values.Post,
-) (walk-object-at t) walk-object.Post
-walk-object-walk-many-requires-2 t c κs =
+    omega (arith, opened· .ensures .level _ (w· .given .1)))
+    (walk-object-add-number-at-3 t)
+    (λ c κs. search needs)  -- number-at-requires-3
+    (λ c κs.  -- walk-many-requires-2
     let pre· = c .before .before .before .before .before .before .before .before .before .before .before .before .before .before .before .before .pre in
     let opened· = c .before .before .before .before .before .before .before .before .before .before .before .before .before .before .opened in
     let w· = c .before .before .before .before .before .before .before .before .before .before .before .before .w in
-    (omega (arith, pre· .0, opened· .ensures .level _ (w· .given .1)), search needs)
-
-walk-object-enum-known-a : (t : ℕ) → walk-object-lts.Need-enum-known-a (
-  opened-reads.Asked,
-  opened-reads.Learnt,
-  number-at-reads.Asked,
-  number-at-reads.Learnt,
-  walk-many-below t,
-  walk-many.Post,
-  walk-binds-below t,
-  walk-binds.Post,
-  walk-values-below t,
-  walk-values.Post,
-) (walk-object-at t) walk-object.Post
-walk-object-enum-known-a t c = search needs
-
-walk-object-enum-told-4 : (t : ℕ) → walk-object-lts.Need-enum-told-4 (
-  opened-reads.Asked,
-  opened-reads.Learnt,
-  number-at-reads.Asked,
-  number-at-reads.Learnt,
-  walk-many-below t,
-  walk-many.Post,
-  walk-binds-below t,
-  walk-binds.Post,
-  walk-values-below t,
-  walk-values.Post,
-) (walk-object-at t) walk-object.Post
-walk-object-enum-told-4 t c = search needs
-
-walk-object-returns-4 : (t : ℕ) → walk-object-lts.Need-returns-4 (
-  opened-reads.Asked,
-  opened-reads.Learnt,
-  number-at-reads.Asked,
-  number-at-reads.Learnt,
-  walk-many-below t,
-  walk-many.Post,
-  walk-binds-below t,
-  walk-binds.Post,
-  walk-values-below t,
-  walk-values.Post,
-) (walk-object-at t) walk-object.Post
-walk-object-returns-4 t c =
+    (omega (arith, pre· .0, opened· .ensures .level _ (w· .given .1)), search needs))
+    (λ c. search needs)  -- enum-known-a
+    (λ c. search needs)  -- enum-told-4
+    (λ c.  -- returns-4
     let args· = c .before .before .before .before .before .before .before .before .before .before .before .before .before .before .before .before .before .before .before .args in
     let opened· = c .before .before .before .before .before .before .before .before .before .before .before .before .before .before .before .before .before .opened in
     let w· = c .before .before .before .before .before .before .before .before .before .before .before .before .before .before .before .w in
@@ -432,52 +137,13 @@ walk-object-returns-4 t c =
     let number-at3· = c .before .before .before .number-at3 in
     let walk-many2· = c .before .before .walk-many2 in
     let enum-told4· = c .enum-told4 in
-    assertions-refused (args· .tree .now) (args· .nest) (args· .at) (opened· .ensures .same) (w· .given .1) (number-at· .ensures) (walk-many· .ensures) (b· .given .1) (number-at2· .ensures) (walk-binds· .ensures) (l· .given .1) (number-at3· .ensures) (walk-many2· .ensures) (enum-told4· .given .1)
-
-walk-object-sub-walk-values : (t : ℕ) → walk-object-lts.Need-sub-walk-values (
-  opened-reads.Asked,
-  opened-reads.Learnt,
-  number-at-reads.Asked,
-  number-at-reads.Learnt,
-  walk-many-below t,
-  walk-many.Post,
-  walk-binds-below t,
-  walk-binds.Post,
-  walk-values-below t,
-  walk-values.Post,
-) (walk-object-at t) walk-object.Post
-walk-object-sub-walk-values t c =
+    assertions-refused (args· .tree .now) (args· .nest) (args· .at) (opened· .ensures .same) (w· .given .1) (number-at· .ensures) (walk-many· .ensures) (b· .given .1) (number-at2· .ensures) (walk-binds· .ensures) (l· .given .1) (number-at3· .ensures) (walk-many2· .ensures) (enum-told4· .given .1))
+    (λ c.  -- sub-walk-values
     let opened· = c .before .before .before .before .before .before .before .before .before .before .before .before .before .before .before .before .before .before .opened in
     let w· = c .before .before .before .before .before .before .before .before .before .before .before .before .before .before .before .before .w in
-    omega (arith, opened· .ensures .level _ (w· .given .1))
-
-walk-object-walk-values-requires : (t : ℕ) → walk-object-lts.Need-walk-values-requires (
-  opened-reads.Asked,
-  opened-reads.Learnt,
-  number-at-reads.Asked,
-  number-at-reads.Learnt,
-  walk-many-below t,
-  walk-many.Post,
-  walk-binds-below t,
-  walk-binds.Post,
-  walk-values-below t,
-  walk-values.Post,
-) (walk-object-at t) walk-object.Post
-walk-object-walk-values-requires t c κs = (omega (arith, c .before .before .before .before .before .before .before .before .before .before .before .before .before .before .before .before .before .before .before .before .pre .0, c .before .before .before .before .before .before .before .before .before .before .before .before .before .before .before .before .before .before .opened .ensures .level _ (c .before .before .before .before .before .before .before .before .before .before .before .before .before .before .before .before .w .given .1)), ends (c .before .before .before .before .before .before .before .before .before .before .before .before .before .walk-many .ensures) (c .before .before .before .before .before .before .before .before .before .before .before .b .given .1))
-
-walk-object-returns-5 : (t : ℕ) → walk-object-lts.Need-returns-5 (
-  opened-reads.Asked,
-  opened-reads.Learnt,
-  number-at-reads.Asked,
-  number-at-reads.Learnt,
-  walk-many-below t,
-  walk-many.Post,
-  walk-binds-below t,
-  walk-binds.Post,
-  walk-values-below t,
-  walk-values.Post,
-) (walk-object-at t) walk-object.Post
-walk-object-returns-5 t c =
+    omega (arith, opened· .ensures .level _ (w· .given .1)))
+    (λ c κs. (omega (arith, c .before .before .before .before .before .before .before .before .before .before .before .before .before .before .before .before .before .before .before .before .pre .0, c .before .before .before .before .before .before .before .before .before .before .before .before .before .before .before .before .before .before .opened .ensures .level _ (c .before .before .before .before .before .before .before .before .before .before .before .before .before .before .before .before .w .given .1)), ends (c .before .before .before .before .before .before .before .before .before .before .before .before .before .walk-many .ensures) (c .before .before .before .before .before .before .before .before .before .before .before .b .given .1)))  -- walk-values-requires
+    (λ c.  -- returns-5
     let args· = c .before .before .before .before .before .before .before .before .before .before .before .before .before .before .before .before .before .before .before .before .before .args in
     let opened· = c .before .before .before .before .before .before .before .before .before .before .before .before .before .before .before .before .before .before .before .opened in
     let w· = c .before .before .before .before .before .before .before .before .before .before .before .before .before .before .before .before .before .w in
@@ -491,59 +157,4 @@ walk-object-returns-5 t c =
     let walk-many2· = c .before .before .before .before .walk-many2 in
     let a· = c .before .before .a in
     let walk-values· = c .walk-values in
-    object-went (args· .tree .now) (args· .nest) (args· .at) (opened· .ensures .same) (w· .given .1) (number-at· .ensures) (walk-many· .ensures) (b· .given .1) (number-at2· .ensures) (walk-binds· .ensures) (l· .given .1) (number-at3· .ensures) (walk-many2· .ensures) (a· .given .1) (walk-values· .ensures)
-
-pub walk-object-met : {M : Type 1} (t : ℕ) → walk-object-lts.Closed (
-  opened-reads.Asked,
-  opened-reads.Learnt,
-  number-at-reads.Asked,
-  number-at-reads.Learnt,
-  walk-many-below t,
-  walk-many.Post,
-  walk-binds-below t,
-  walk-binds.Post,
-  walk-values-below t,
-  walk-values.Post,
-) (walk-object-at t) walk-object.Post M
-walk-object-met t = walk-object-lts.spec (
-  opened-reads.Asked,
-  opened-reads.Learnt,
-  number-at-reads.Asked,
-  number-at-reads.Learnt,
-  walk-many-below t,
-  walk-many.Post,
-  walk-binds-below t,
-  walk-binds.Post,
-  walk-values-below t,
-  walk-values.Post,
-)
-    (walk-object-at t)
-    walk-object.Post
-    (walk-object-opened-requires t)
-    (walk-object-enum-known-w t)
-    (walk-object-enum-told t)
-    (walk-object-returns t)
-    (walk-object-add-number-at t)
-    (walk-object-number-at-requires t)
-    (walk-object-sub-walk-many t)
-    (walk-object-walk-many-requires t)
-    (walk-object-enum-known-b t)
-    (walk-object-enum-told-2 t)
-    (walk-object-returns-2 t)
-    (walk-object-sub-walk-binds t)
-    (walk-object-add-number-at-2 t)
-    (walk-object-number-at-requires-2 t)
-    (walk-object-walk-binds-requires t)
-    (walk-object-enum-known-l t)
-    (walk-object-enum-told-3 t)
-    (walk-object-returns-3 t)
-    (walk-object-sub-walk-many-2 t)
-    (walk-object-add-number-at-3 t)
-    (walk-object-number-at-requires-3 t)
-    (walk-object-walk-many-requires-2 t)
-    (walk-object-enum-known-a t)
-    (walk-object-enum-told-4 t)
-    (walk-object-returns-4 t)
-    (walk-object-sub-walk-values t)
-    (walk-object-walk-values-requires t)
-    (walk-object-returns-5 t)
+    object-went (args· .tree .now) (args· .nest) (args· .at) (opened· .ensures .same) (w· .given .1) (number-at· .ensures) (walk-many· .ensures) (b· .given .1) (number-at2· .ensures) (walk-binds· .ensures) (l· .given .1) (number-at3· .ensures) (walk-many2· .ensures) (a· .given .1) (walk-values· .ensures))

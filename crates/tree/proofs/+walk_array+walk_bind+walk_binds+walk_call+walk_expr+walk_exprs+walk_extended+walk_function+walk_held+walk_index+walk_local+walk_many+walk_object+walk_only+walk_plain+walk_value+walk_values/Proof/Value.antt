@@ -10,107 +10,42 @@ use Rattle.tree.proofs.walk_expr.Reads as walk-expr
 use Rattle.tree.proofs.walk_only.Reads as walk-only
 use Rattle.tree.proofs.walk_value.Reads as walk-value
 use Rattle.tree.proofs.+walk_array+walk_bind+walk_binds+walk_call+walk_expr+walk_exprs+walk_extended+walk_function+walk_held+walk_index+walk_local+walk_many+walk_object+walk_only+walk_plain+walk_value+walk_values.Lts-walk_value as walk-value-lts
-use Rattle.packed.proofs.number_at.Reads as number-at-reads
+use Rattle.bytes_read.proofs.number_at.Reads as number-at-reads
 use Rattle.tree.proofs.+walk_array+walk_bind+walk_binds+walk_call+walk_expr+walk_exprs+walk_extended+walk_function+walk_held+walk_index+walk_local+walk_many+walk_object+walk_only+walk_plain+walk_value+walk_values.Proof.Measures.{walk-expr-below, walk-only-below, walk-value-at}
 
-walk-value-add-number-at : (t : ℕ) → walk-value-lts.Need-add-number-at (
-  number-at-reads.Asked,
-  number-at-reads.Learnt,
-  walk-expr-below t,
-  walk-expr.Post,
-  walk-only-below t,
-  walk-only.Post,
-) (walk-value-at t) walk-value.Post
-walk-value-add-number-at t c =
-    let pre· = c .before .pre in
-    omega (arith, pre· .1)
+-- what the members and functions that it calls ask and promise
+abbrev called : (t : ℕ) → walk-value-lts.Claims
+called t =
+    (number-at-reads.Asked, number-at-reads.Learnt, walk-expr-below t, walk-expr.Post, walk-only-below t, walk-only.Post)
 
-walk-value-number-at-requires : (t : ℕ) → walk-value-lts.Need-number-at-requires (
-  number-at-reads.Asked,
-  number-at-reads.Learnt,
-  walk-expr-below t,
-  walk-expr.Post,
-  walk-only-below t,
-  walk-only.Post,
-) (walk-value-at t) walk-value.Post
-walk-value-number-at-requires t c κs = search needs
-
-walk-value-walk-expr-requires : (t : ℕ) → walk-value-lts.Need-walk-expr-requires (
-  number-at-reads.Asked,
-  number-at-reads.Learnt,
-  walk-expr-below t,
-  walk-expr.Post,
-  walk-only-below t,
-  walk-only.Post,
-) (walk-value-at t) walk-value.Post
-walk-value-walk-expr-requires t c κs =
-    let pre· = c .before .before .before .pre in
-    (omega (arith, pre· .0), search needs)
-
-walk-value-returns : (t : ℕ) → walk-value-lts.Need-returns (
-  number-at-reads.Asked,
-  number-at-reads.Learnt,
-  walk-expr-below t,
-  walk-expr.Post,
-  walk-only-below t,
-  walk-only.Post,
-) (walk-value-at t) walk-value.Post
-walk-value-returns t c =
-    let args· = c .before .before .before .before .args in
-    let number-at· = c .before .before .number-at in
-    let if1· = c .before .if1 in
-    let walk-expr· = c .walk-expr in
-    value-any (args· .tree .now) (args· .nest) (args· .at) (args· .head) (number-at· .ensures) (if1· .taken) (walk-expr· .ensures)
-
-walk-value-walk-only-requires : (t : ℕ) → walk-value-lts.Need-walk-only-requires (
-  number-at-reads.Asked,
-  number-at-reads.Learnt,
-  walk-expr-below t,
-  walk-expr.Post,
-  walk-only-below t,
-  walk-only.Post,
-) (walk-value-at t) walk-value.Post
+walk-value-walk-only-requires : (t : ℕ) → walk-value-lts.Need-walk-only-requires (called t) (walk-value-at t) walk-value.Post
 unfolding code
 walk-value-walk-only-requires t c κs =
     let pre· = c .before .before .before .pre in
     (omega (arith, pre· .0), a-function refl)
 
-walk-value-returns-2 : (t : ℕ) → walk-value-lts.Need-returns-2 (
-  number-at-reads.Asked,
-  number-at-reads.Learnt,
-  walk-expr-below t,
-  walk-expr.Post,
-  walk-only-below t,
-  walk-only.Post,
-) (walk-value-at t) walk-value.Post
-walk-value-returns-2 t c =
+pub walk-value-met : {M : Type 1} (t : ℕ) → walk-value-lts.Closed (called t) (walk-value-at t) walk-value.Post M
+walk-value-met t = walk-value-lts.spec
+    (called t)
+    (walk-value-at t)
+    walk-value.Post
+    (λ c.  -- add-number-at
+    let pre· = c .before .pre in
+    omega (arith, pre· .1))
+    (λ c κs. search needs)  -- number-at-requires
+    (λ c κs.  -- walk-expr-requires
+    let pre· = c .before .before .before .pre in
+    (omega (arith, pre· .0), search needs))
+    (λ c.  -- returns
+    let args· = c .before .before .before .before .args in
+    let number-at· = c .before .before .number-at in
+    let if1· = c .before .if1 in
+    let walk-expr· = c .walk-expr in
+    value-any (args· .tree .now) (args· .nest) (args· .at) (args· .head) (number-at· .ensures) (if1· .taken) (walk-expr· .ensures))
+    (walk-value-walk-only-requires t)
+    (λ c.  -- returns-2
     let args· = c .before .before .before .before .args in
     let number-at· = c .before .before .number-at in
     let if1· = c .before .if1 in
     let walk-only· = c .walk-only in
-    value-method (args· .tree .now) (args· .nest) (args· .at) (args· .head) (number-at· .ensures) (if1· .left) (walk-only· .ensures)
-
-pub walk-value-met : {M : Type 1} (t : ℕ) → walk-value-lts.Closed (
-  number-at-reads.Asked,
-  number-at-reads.Learnt,
-  walk-expr-below t,
-  walk-expr.Post,
-  walk-only-below t,
-  walk-only.Post,
-) (walk-value-at t) walk-value.Post M
-walk-value-met t = walk-value-lts.spec (
-  number-at-reads.Asked,
-  number-at-reads.Learnt,
-  walk-expr-below t,
-  walk-expr.Post,
-  walk-only-below t,
-  walk-only.Post,
-)
-    (walk-value-at t)
-    walk-value.Post
-    (walk-value-add-number-at t)
-    (walk-value-number-at-requires t)
-    (walk-value-walk-expr-requires t)
-    (walk-value-returns t)
-    (walk-value-walk-only-requires t)
-    (walk-value-returns-2 t)
+    value-method (args· .tree .now) (args· .nest) (args· .at) (args· .head) (number-at· .ensures) (if1· .left) (walk-only· .ensures))

@@ -1,6 +1,6 @@
 -- The measures of the cycle, and what a member is given at a measure and asks below one. Assumes nothing.
 use Prim.Native.Nat.{ℕ, _+_, _*_, _<_}
-use Rattle.leaves.specs.Leaves.{items-rank}
+use Rattle.step_leaf.specs.Leaves.{items-rank}
 use borrow.Fn.Kinds.{In}
 use borrow.Fn.PlainCycle.{Measures, is, falls, and}
 use Rattle.walkers.proofs.analyze.Reads as analyze

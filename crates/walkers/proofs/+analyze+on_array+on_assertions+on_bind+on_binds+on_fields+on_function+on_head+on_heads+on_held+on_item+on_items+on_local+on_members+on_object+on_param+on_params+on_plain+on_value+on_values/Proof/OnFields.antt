@@ -5,312 +5,74 @@ use native.Mathlib.Omega.{arith}
 use mathlib.Core.Path.{_∙_}
 use Rattle.rules.specs.Numbers.{code}
 use Rattle.state.specs.Walks.{place-of}
-use Rattle.joins.proofs.Onward.{ready-assertions}
-use Rattle.joins.proofs.Stages.{fields-assertions, fields-values}
-use Rattle.joins.proofs.Returns.{fields-stopped, fields-ended}
+use Rattle.law_joins.proofs.Onward.{ready-assertions}
+use Rattle.law_joins.proofs.Stages.{fields-assertions, fields-values}
+use Rattle.law_joins.proofs.Returns.{fields-stopped, fields-ended}
 use Rattle.walkers.proofs.on_assertions.Reads as on-assertions
 use Rattle.walkers.proofs.on_fields.Reads as on-fields
 use Rattle.walkers.proofs.+analyze+on_array+on_assertions+on_bind+on_binds+on_fields+on_function+on_head+on_heads+on_held+on_item+on_items+on_local+on_members+on_object+on_param+on_params+on_plain+on_value+on_values.Lts-on_fields as on-fields-lts
 use Rattle.walkers.proofs.on_values.Reads as on-values
-use Rattle.packed.proofs.number_at.Reads as number-at-reads
+use Rattle.bytes_read.proofs.number_at.Reads as number-at-reads
 use Rattle.walkers.proofs.+analyze+on_array+on_assertions+on_bind+on_binds+on_fields+on_function+on_head+on_heads+on_held+on_item+on_items+on_local+on_members+on_object+on_param+on_params+on_plain+on_value+on_values.Proof.Measures.{on-assertions-below, on-fields-at, on-values-below}
 
-on-fields-add-number-at : (t : ℕ) → on-fields-lts.Need-add-number-at (
-  number-at-reads.Asked,
-  number-at-reads.Learnt,
-  on-assertions-below t,
-  on-assertions.Post,
-  on-values-below t,
-  on-values.Post,
-) (on-fields-at t) on-fields.Post
-on-fields-add-number-at t c =
+-- what the members and functions that it calls ask and promise
+abbrev called : (t : ℕ) → on-fields-lts.Claims
+called t =
+    (number-at-reads.Asked, number-at-reads.Learnt, on-assertions-below t, on-assertions.Post, on-values-below t, on-values.Post)
+
+pub on-fields-met : {M : Type 1} (t : ℕ) → on-fields-lts.Closed (called t) (on-fields-at t) on-fields.Post M
+on-fields-met t = on-fields-lts.spec
+    (called t)
+    (on-fields-at t)
+    on-fields.Post
+    (λ c.  -- add-number-at
     let pre· = c .before .before .before .before .before .before .before .before .before .before .before .before .before .pre in
-    omega (arith, (pre· .1 .1) .fits, (pre· .1 .0) .short)
-
-on-fields-number-at-requires : (t : ℕ) → on-fields-lts.Need-number-at-requires (
-  number-at-reads.Asked,
-  number-at-reads.Learnt,
-  on-assertions-below t,
-  on-assertions.Post,
-  on-values-below t,
-  on-values.Post,
-) (on-fields-at t) on-fields.Post
-on-fields-number-at-requires t c κs = search needs
-
-on-fields-on-assertions-requires : (t : ℕ) → on-fields-lts.Need-on-assertions-requires (
-  number-at-reads.Asked,
-  number-at-reads.Learnt,
-  on-assertions-below t,
-  on-assertions.Post,
-  on-values-below t,
-  on-values.Post,
-) (on-fields-at t) on-fields.Post
-on-fields-on-assertions-requires t c κs =
+    omega (arith, (pre· .1 .1) .fits, (pre· .1 .0) .short))
+    (λ c κs. search needs)  -- number-at-requires
+    (λ c κs.  -- on-assertions-requires
     let pre· = c .before .before .before .before .before .before .before .before .before .before .before .before .before .before .pre in
     let number-at· = c .number-at in
-    (omega (arith, pre· .0), ((pre· .1 .0), fields-assertions (pre· .1 .1) (number-at· .ensures)))
-
-on-fields-enum-known-w : (t : ℕ) → on-fields-lts.Need-enum-known-w (
-  number-at-reads.Asked,
-  number-at-reads.Learnt,
-  on-assertions-below t,
-  on-assertions.Post,
-  on-values-below t,
-  on-values.Post,
-) (on-fields-at t) on-fields.Post
-on-fields-enum-known-w t c = search needs
-
-on-fields-enum-told : (t : ℕ) → on-fields-lts.Need-enum-told (
-  number-at-reads.Asked,
-  number-at-reads.Learnt,
-  on-assertions-below t,
-  on-assertions.Post,
-  on-values-below t,
-  on-values.Post,
-) (on-fields-at t) on-fields.Post
-on-fields-enum-told t c = search needs
-
-on-fields-same-length : (t : ℕ) → on-fields-lts.Need-same-length (
-  number-at-reads.Asked,
-  number-at-reads.Learnt,
-  on-assertions-below t,
-  on-assertions.Post,
-  on-values-below t,
-  on-values.Post,
-) (on-fields-at t) on-fields.Post
-on-fields-same-length t c = c .before .before .before .before .before .before .before .before .before .before .before .before .before .before .on-assertions .kept .1 .0
-
-on-fields-same-length-2 : (t : ℕ) → on-fields-lts.Need-same-length-2 (
-  number-at-reads.Asked,
-  number-at-reads.Learnt,
-  on-assertions-below t,
-  on-assertions.Post,
-  on-values-below t,
-  on-values.Post,
-) (on-fields-at t) on-fields.Post
-on-fields-same-length-2 t c = c .before .before .before .before .before .before .before .before .before .before .before .before .before .before .on-assertions .kept .1 .1 .0
-
-on-fields-same-length-3 : (t : ℕ) → on-fields-lts.Need-same-length-3 (
-  number-at-reads.Asked,
-  number-at-reads.Learnt,
-  on-assertions-below t,
-  on-assertions.Post,
-  on-values-below t,
-  on-values.Post,
-) (on-fields-at t) on-fields.Post
-on-fields-same-length-3 t c = c .before .before .before .before .before .before .before .before .before .before .before .before .before .before .on-assertions .kept .1 .1 .1 .0
-
-on-fields-same-length-4 : (t : ℕ) → on-fields-lts.Need-same-length-4 (
-  number-at-reads.Asked,
-  number-at-reads.Learnt,
-  on-assertions-below t,
-  on-assertions.Post,
-  on-values-below t,
-  on-values.Post,
-) (on-fields-at t) on-fields.Post
-on-fields-same-length-4 t c = c .before .before .before .before .before .before .before .before .before .before .before .before .before .before .on-assertions .kept .1 .1 .1 .1 .0
-
-on-fields-same-length-5 : (t : ℕ) → on-fields-lts.Need-same-length-5 (
-  number-at-reads.Asked,
-  number-at-reads.Learnt,
-  on-assertions-below t,
-  on-assertions.Post,
-  on-values-below t,
-  on-values.Post,
-) (on-fields-at t) on-fields.Post
-on-fields-same-length-5 t c = c .before .before .before .before .before .before .before .before .before .before .before .before .before .before .on-assertions .kept .1 .1 .1 .1 .1 .0
-
-on-fields-same-length-6 : (t : ℕ) → on-fields-lts.Need-same-length-6 (
-  number-at-reads.Asked,
-  number-at-reads.Learnt,
-  on-assertions-below t,
-  on-assertions.Post,
-  on-values-below t,
-  on-values.Post,
-) (on-fields-at t) on-fields.Post
-on-fields-same-length-6 t c = c .before .before .before .before .before .before .before .before .before .before .before .before .before .before .on-assertions .kept .1 .1 .1 .1 .1 .1 .0
-
-on-fields-returns : (t : ℕ) → on-fields-lts.Need-returns (
-  number-at-reads.Asked,
-  number-at-reads.Learnt,
-  on-assertions-below t,
-  on-assertions.Post,
-  on-values-below t,
-  on-values.Post,
-) (on-fields-at t) on-fields.Post
-on-fields-returns t c =
+    (omega (arith, pre· .0), ((pre· .1 .0), fields-assertions (pre· .1 .1) (number-at· .ensures))))
+    (λ c. search needs)  -- enum-known-w
+    (λ c. search needs)  -- enum-told
+    (λ c. c .before .before .before .before .before .before .before .before .before .before .before .before .before .before .on-assertions .kept .1 .0)  -- same-length
+    (λ c. c .before .before .before .before .before .before .before .before .before .before .before .before .before .before .on-assertions .kept .1 .1 .0)  -- same-length-2
+    (λ c. c .before .before .before .before .before .before .before .before .before .before .before .before .before .before .on-assertions .kept .1 .1 .1 .0)  -- same-length-3
+    (λ c. c .before .before .before .before .before .before .before .before .before .before .before .before .before .before .on-assertions .kept .1 .1 .1 .1 .0)  -- same-length-4
+    (λ c. c .before .before .before .before .before .before .before .before .before .before .before .before .before .before .on-assertions .kept .1 .1 .1 .1 .1 .0)  -- same-length-5
+    (λ c. c .before .before .before .before .before .before .before .before .before .before .before .before .before .before .on-assertions .kept .1 .1 .1 .1 .1 .1 .0)  -- same-length-6
+    (λ c.  -- returns
     let args· = c .before .before .before .before .before .before .before .before .before .before .before .before .before .before .before .before .before .before .before .before .before .before .before .before .before .before .before .before .before .args in
     let number-at· = c .before .before .before .before .before .before .before .before .before .before .before .before .before .before .before .number-at in
     let on-assertions· = c .before .before .before .before .before .before .before .before .before .before .before .before .before .before .on-assertions in
     let enum-told· = c .enum-told in
-    fields-stopped (args· .tree .now) (args· .nest) (args· .object) (args· .at) (place-of (args· .here)) (number-at· .ensures) (on-assertions· .ensures) (enum-told· .given .1)
-
-on-fields-add-number-at-2 : (t : ℕ) → on-fields-lts.Need-add-number-at-2 (
-  number-at-reads.Asked,
-  number-at-reads.Learnt,
-  on-assertions-below t,
-  on-assertions.Post,
-  on-values-below t,
-  on-values.Post,
-) (on-fields-at t) on-fields.Post
-on-fields-add-number-at-2 t c =
+    fields-stopped (args· .tree .now) (args· .nest) (args· .object) (args· .at) (place-of (args· .here)) (number-at· .ensures) (on-assertions· .ensures) (enum-told· .given .1))
+    (λ c.  -- add-number-at-2
     let pre· = c .before .before .before .before .before .before .before .before .before .before .before .before .before .before .before .before .before .before .before .before .before .before .before .before .before .before .before .before .before .before .before .before .before .before .before .before .pre in
-    omega (arith, (pre· .1 .1) .fits, (pre· .1 .0) .short)
-
-on-fields-number-at-requires-2 : (t : ℕ) → on-fields-lts.Need-number-at-requires-2 (
-  number-at-reads.Asked,
-  number-at-reads.Learnt,
-  on-assertions-below t,
-  on-assertions.Post,
-  on-values-below t,
-  on-values.Post,
-) (on-fields-at t) on-fields.Post
-on-fields-number-at-requires-2 t c κs = search needs
-
-on-fields-add-on-values : (t : ℕ) → on-fields-lts.Need-add-on-values (
-  number-at-reads.Asked,
-  number-at-reads.Learnt,
-  on-assertions-below t,
-  on-assertions.Post,
-  on-values-below t,
-  on-values.Post,
-) (on-fields-at t) on-fields.Post
-on-fields-add-on-values t c =
+    omega (arith, (pre· .1 .1) .fits, (pre· .1 .0) .short))
+    (λ c κs. search needs)  -- number-at-requires-2
+    (λ c.  -- add-on-values
     let pre· = c .before .before .before .before .before .before .before .before .before .before .before .before .before .before .before .before .before .before .before .before .before .before .before .before .before .before .before .before .before .before .before .before .before .before .before .before .before .pre in
-    omega (arith, (pre· .1 .1) .fits, (pre· .1 .0) .short)
-
-on-fields-on-values-requires : (t : ℕ) → on-fields-lts.Need-on-values-requires (
-  number-at-reads.Asked,
-  number-at-reads.Learnt,
-  on-assertions-below t,
-  on-assertions.Post,
-  on-values-below t,
-  on-values.Post,
-) (on-fields-at t) on-fields.Post
-on-fields-on-values-requires t c κs =
+    omega (arith, (pre· .1 .1) .fits, (pre· .1 .0) .short))
+    (λ c κs.  -- on-values-requires
     let pre· = c .before .before .before .before .before .before .before .before .before .before .before .before .before .before .before .before .before .before .before .before .before .before .before .before .before .before .before .before .before .before .before .before .before .before .before .before .before .pre in
     let args· = c .before .before .before .before .before .before .before .before .before .before .before .before .before .before .before .before .before .before .before .before .before .before .before .before .before .before .before .before .before .before .before .before .before .before .before .before .before .args in
     let on-assertions· = c .before .before .before .before .before .before .before .before .before .before .before .before .before .before .before .before .before .before .before .before .before .before .on-assertions in
     let w· = c .before .before .before .before .before .before .before .before .w in
     let number-at· = c .before .before .before .before .before .before .before .before .before .before .before .before .before .before .before .before .before .before .before .before .before .before .before .number-at in
     let number-at2· = c .number-at2 in
-    (omega (arith, pre· .0), (ready-assertions (pre· .1 .0) (args· .nest) _ (place-of (args· .here)) (on-assertions· .ensures) (w· .given .1), fields-values (pre· .1 .1) (number-at· .ensures) (number-at2· .ensures) (place-of (args· .here)) (on-assertions· .ensures) (w· .given .1)))
-
-on-fields-same-length-7 : (t : ℕ) → on-fields-lts.Need-same-length-7 (
-  number-at-reads.Asked,
-  number-at-reads.Learnt,
-  on-assertions-below t,
-  on-assertions.Post,
-  on-values-below t,
-  on-values.Post,
-) (on-fields-at t) on-fields.Post
-on-fields-same-length-7 t c = c .before .before .before .before .before .before .before .before .before .before .before .before .on-values .kept .1 .0 ∙ c .before .before .before .before .before .before .before .before .before .before .before .before .before .before .before .before .before .before .before .before .before .before .before .before .before .before .before .before .before .before .before .before .before .before .before .on-assertions .kept .1 .0
-
-on-fields-same-length-8 : (t : ℕ) → on-fields-lts.Need-same-length-8 (
-  number-at-reads.Asked,
-  number-at-reads.Learnt,
-  on-assertions-below t,
-  on-assertions.Post,
-  on-values-below t,
-  on-values.Post,
-) (on-fields-at t) on-fields.Post
-on-fields-same-length-8 t c = c .before .before .before .before .before .before .before .before .before .before .before .before .on-values .kept .1 .1 .0 ∙ c .before .before .before .before .before .before .before .before .before .before .before .before .before .before .before .before .before .before .before .before .before .before .before .before .before .before .before .before .before .before .before .before .before .before .before .on-assertions .kept .1 .1 .0
-
-on-fields-same-length-9 : (t : ℕ) → on-fields-lts.Need-same-length-9 (
-  number-at-reads.Asked,
-  number-at-reads.Learnt,
-  on-assertions-below t,
-  on-assertions.Post,
-  on-values-below t,
-  on-values.Post,
-) (on-fields-at t) on-fields.Post
-on-fields-same-length-9 t c = c .before .before .before .before .before .before .before .before .before .before .before .before .on-values .kept .1 .1 .1 .0 ∙ c .before .before .before .before .before .before .before .before .before .before .before .before .before .before .before .before .before .before .before .before .before .before .before .before .before .before .before .before .before .before .before .before .before .before .before .on-assertions .kept .1 .1 .1 .0
-
-on-fields-same-length-10 : (t : ℕ) → on-fields-lts.Need-same-length-10 (
-  number-at-reads.Asked,
-  number-at-reads.Learnt,
-  on-assertions-below t,
-  on-assertions.Post,
-  on-values-below t,
-  on-values.Post,
-) (on-fields-at t) on-fields.Post
-on-fields-same-length-10 t c = c .before .before .before .before .before .before .before .before .before .before .before .before .on-values .kept .1 .1 .1 .1 .0 ∙ c .before .before .before .before .before .before .before .before .before .before .before .before .before .before .before .before .before .before .before .before .before .before .before .before .before .before .before .before .before .before .before .before .before .before .before .on-assertions .kept .1 .1 .1 .1 .0
-
-on-fields-same-length-11 : (t : ℕ) → on-fields-lts.Need-same-length-11 (
-  number-at-reads.Asked,
-  number-at-reads.Learnt,
-  on-assertions-below t,
-  on-assertions.Post,
-  on-values-below t,
-  on-values.Post,
-) (on-fields-at t) on-fields.Post
-on-fields-same-length-11 t c = c .before .before .before .before .before .before .before .before .before .before .before .before .on-values .kept .1 .1 .1 .1 .1 .0 ∙ c .before .before .before .before .before .before .before .before .before .before .before .before .before .before .before .before .before .before .before .before .before .before .before .before .before .before .before .before .before .before .before .before .before .before .before .on-assertions .kept .1 .1 .1 .1 .1 .0
-
-on-fields-same-length-12 : (t : ℕ) → on-fields-lts.Need-same-length-12 (
-  number-at-reads.Asked,
-  number-at-reads.Learnt,
-  on-assertions-below t,
-  on-assertions.Post,
-  on-values-below t,
-  on-values.Post,
-) (on-fields-at t) on-fields.Post
-on-fields-same-length-12 t c = c .before .before .before .before .before .before .before .before .before .before .before .before .on-values .kept .1 .1 .1 .1 .1 .1 .0 ∙ c .before .before .before .before .before .before .before .before .before .before .before .before .before .before .before .before .before .before .before .before .before .before .before .before .before .before .before .before .before .before .before .before .before .before .before .on-assertions .kept .1 .1 .1 .1 .1 .1 .0
-
-on-fields-returns-2 : (t : ℕ) → on-fields-lts.Need-returns-2 (
-  number-at-reads.Asked,
-  number-at-reads.Learnt,
-  on-assertions-below t,
-  on-assertions.Post,
-  on-values-below t,
-  on-values.Post,
-) (on-fields-at t) on-fields.Post
-on-fields-returns-2 t c =
+    (omega (arith, pre· .0), (ready-assertions (pre· .1 .0) (args· .nest) _ (place-of (args· .here)) (on-assertions· .ensures) (w· .given .1), fields-values (pre· .1 .1) (number-at· .ensures) (number-at2· .ensures) (place-of (args· .here)) (on-assertions· .ensures) (w· .given .1))))
+    (λ c. c .before .before .before .before .before .before .before .before .before .before .before .before .on-values .kept .1 .0 ∙ c .before .before .before .before .before .before .before .before .before .before .before .before .before .before .before .before .before .before .before .before .before .before .before .before .before .before .before .before .before .before .before .before .before .before .before .on-assertions .kept .1 .0)  -- same-length-7
+    (λ c. c .before .before .before .before .before .before .before .before .before .before .before .before .on-values .kept .1 .1 .0 ∙ c .before .before .before .before .before .before .before .before .before .before .before .before .before .before .before .before .before .before .before .before .before .before .before .before .before .before .before .before .before .before .before .before .before .before .before .on-assertions .kept .1 .1 .0)  -- same-length-8
+    (λ c. c .before .before .before .before .before .before .before .before .before .before .before .before .on-values .kept .1 .1 .1 .0 ∙ c .before .before .before .before .before .before .before .before .before .before .before .before .before .before .before .before .before .before .before .before .before .before .before .before .before .before .before .before .before .before .before .before .before .before .before .on-assertions .kept .1 .1 .1 .0)  -- same-length-9
+    (λ c. c .before .before .before .before .before .before .before .before .before .before .before .before .on-values .kept .1 .1 .1 .1 .0 ∙ c .before .before .before .before .before .before .before .before .before .before .before .before .before .before .before .before .before .before .before .before .before .before .before .before .before .before .before .before .before .before .before .before .before .before .before .on-assertions .kept .1 .1 .1 .1 .0)  -- same-length-10
+    (λ c. c .before .before .before .before .before .before .before .before .before .before .before .before .on-values .kept .1 .1 .1 .1 .1 .0 ∙ c .before .before .before .before .before .before .before .before .before .before .before .before .before .before .before .before .before .before .before .before .before .before .before .before .before .before .before .before .before .before .before .before .before .before .before .on-assertions .kept .1 .1 .1 .1 .1 .0)  -- same-length-11
+    (λ c. c .before .before .before .before .before .before .before .before .before .before .before .before .on-values .kept .1 .1 .1 .1 .1 .1 .0 ∙ c .before .before .before .before .before .before .before .before .before .before .before .before .before .before .before .before .before .before .before .before .before .before .before .before .before .before .before .before .before .before .before .before .before .before .before .on-assertions .kept .1 .1 .1 .1 .1 .1 .0)  -- same-length-12
+    (λ c.  -- returns-2
     let args· = c .before .before .before .before .before .before .before .before .before .before .before .before .before .before .before .before .before .before .before .before .before .before .before .before .before .before .before .before .before .before .before .before .before .before .before .before .before .before .before .before .before .before .before .before .before .before .before .before .before .before .args in
     let number-at· = c .before .before .before .before .before .before .before .before .before .before .before .before .before .before .before .before .before .before .before .before .before .before .before .before .before .before .before .before .before .before .before .before .before .before .before .before .number-at in
     let on-assertions· = c .before .before .before .before .before .before .before .before .before .before .before .before .before .before .before .before .before .before .before .before .before .before .before .before .before .before .before .before .before .before .before .before .before .before .before .on-assertions in
     let w· = c .before .before .before .before .before .before .before .before .before .before .before .before .before .before .before .before .before .before .before .before .before .w in
     let number-at2· = c .before .before .before .before .before .before .before .before .before .before .before .before .before .number-at2 in
     let on-values· = c .before .before .before .before .before .before .before .before .before .before .before .before .on-values in
-    fields-ended (args· .tree .now) (args· .nest) (args· .object) (args· .at) (place-of (args· .here)) (number-at· .ensures) (on-assertions· .ensures) (w· .given .1) (record { out = on-assertions· .kept .1 .0; diagnostics = on-assertions· .kept .1 .1 .0 }) (number-at2· .ensures) (on-values· .ensures)
-
-pub on-fields-met : {M : Type 1} (t : ℕ) → on-fields-lts.Closed (
-  number-at-reads.Asked,
-  number-at-reads.Learnt,
-  on-assertions-below t,
-  on-assertions.Post,
-  on-values-below t,
-  on-values.Post,
-) (on-fields-at t) on-fields.Post M
-on-fields-met t = on-fields-lts.spec (
-  number-at-reads.Asked,
-  number-at-reads.Learnt,
-  on-assertions-below t,
-  on-assertions.Post,
-  on-values-below t,
-  on-values.Post,
-)
-    (on-fields-at t)
-    on-fields.Post
-    (on-fields-add-number-at t)
-    (on-fields-number-at-requires t)
-    (on-fields-on-assertions-requires t)
-    (on-fields-enum-known-w t)
-    (on-fields-enum-told t)
-    (on-fields-same-length t)
-    (on-fields-same-length-2 t)
-    (on-fields-same-length-3 t)
-    (on-fields-same-length-4 t)
-    (on-fields-same-length-5 t)
-    (on-fields-same-length-6 t)
-    (on-fields-returns t)
-    (on-fields-add-number-at-2 t)
-    (on-fields-number-at-requires-2 t)
-    (on-fields-add-on-values t)
-    (on-fields-on-values-requires t)
-    (on-fields-same-length-7 t)
-    (on-fields-same-length-8 t)
-    (on-fields-same-length-9 t)
-    (on-fields-same-length-10 t)
-    (on-fields-same-length-11 t)
-    (on-fields-same-length-12 t)
-    (on-fields-returns-2 t)
+    fields-ended (args· .tree .now) (args· .nest) (args· .object) (args· .at) (place-of (args· .here)) (number-at· .ensures) (on-assertions· .ensures) (w· .given .1) (record { out = on-assertions· .kept .1 .0; diagnostics = on-assertions· .kept .1 .1 .0 }) (number-at2· .ensures) (on-values· .ensures))

@@ -6,30 +6,32 @@ use mathlib.Core.Path.{refl, sym, _∙_}
 use Rattle.rules.specs.Numbers.{code}
 use Rattle.rules.specs.FirstWalk.{any-expression}
 use Rattle.rules.specs.Walk.{unnamed}
-use Rattle.runs.proofs.Reading.{expr-level}
-use Rattle.runs.proofs.Expressions.{function-size, function-first-size}
+use Rattle.law_runs.proofs.Reading.{expr-level}
+use Rattle.law_runs.proofs.Expressions.{function-size, function-first-size}
 use Rattle.state.specs.Seen.{buffers}
 use Rattle.state.specs.Walks.{place-of, naming-of}
-use Rattle.joins.proofs.Joining.{unkept, kept-fit}
-use Rattle.joins.proofs.Readiness.{ready-on}
-use Rattle.joins.proofs.Onward.{ready-function}
-use Rattle.joins.proofs.Asking.{fitting, references-counted, written-counted}
-use Rattle.joins.proofs.Stages.{stage-settleable, stage-body, stage-ends, function-params-there, function-stage}
-use Rattle.joins.proofs.Returns.{function-unbegun, function-params-stopped, function-body-stopped, function-ended}
+use Rattle.law_joins.proofs.Joining.{unkept, kept-fit}
+use Rattle.law_joins.proofs.Readiness.{ready-on}
+use Rattle.law_joins.proofs.Onward.{ready-function}
+use Rattle.law_joins.proofs.Asking.{fitting, references-counted, written-counted}
+use Rattle.law_joins.proofs.Stages.{stage-settleable, stage-body, stage-ends, function-params-there, function-stage}
+use Rattle.law_joins.proofs.Returns.{function-unbegun, function-params-stopped, function-body-stopped, function-ended}
 use Rattle.walkers.proofs.analyze.Reads as analyze
 use Rattle.walkers.proofs.on_function.Reads as on-function
 use Rattle.walkers.proofs.+analyze+on_array+on_assertions+on_bind+on_binds+on_fields+on_function+on_head+on_heads+on_held+on_item+on_items+on_local+on_members+on_object+on_param+on_params+on_plain+on_value+on_values.Lts-on_function as on-function-lts
 use Rattle.walkers.proofs.on_params.Reads as on-params
-use Rattle.closing.proofs.finish_function.Reads as finish-function-reads
-use Rattle.judging.proofs.settle_frame.Reads as settle-frame-reads
-use Rattle.opening.proofs.begin_function.Reads as begin-function-reads
-use Rattle.packed.proofs.number_at.Reads as number-at-reads
-use Rattle.placing.proofs.deeper.Reads as deeper-reads
+use Rattle.step_close.proofs.finish_function.Reads as finish-function-reads
+use Rattle.step_judge.proofs.settle_frame.Reads as settle-frame-reads
+use Rattle.step_open.proofs.begin_function.Reads as begin-function-reads
+use Rattle.bytes_read.proofs.number_at.Reads as number-at-reads
+use Rattle.step_place.proofs.deeper.Reads as deeper-reads
 use Rattle.walkers.proofs.first_defaults.Reads as first-defaults-reads
 use Rattle.walkers.proofs.not_kept.Reads as not-kept-reads
 use Rattle.walkers.proofs.+analyze+on_array+on_assertions+on_bind+on_binds+on_fields+on_function+on_head+on_heads+on_held+on_item+on_items+on_local+on_members+on_object+on_param+on_params+on_plain+on_value+on_values.Proof.Measures.{analyze-below, on-function-at, on-params-below}
 
-on-function-add-number-at : (t : ℕ) → on-function-lts.Need-add-number-at (
+-- what the members and functions that it calls ask and promise
+abbrev called : (t : ℕ) → on-function-lts.Claims
+called t = (
   number-at-reads.Asked,
   number-at-reads.Learnt,
   begin-function-reads.Asked,
@@ -48,191 +50,9 @@ on-function-add-number-at : (t : ℕ) → on-function-lts.Need-add-number-at (
   first-defaults-reads.Learnt,
   finish-function-reads.Asked,
   finish-function-reads.Learnt,
-) (on-function-at t) on-function.Post
-on-function-add-number-at t c =
-    let args· = c .before .before .before .before .before .before .before .args in
-    let pre· = c .before .before .before .before .before .before .before .pre in
-    omega (arith, (function-size (args· .tree .now) (args· .nest) (args· .at) ((pre· .1 .1) .read) ((pre· .1 .1) .marked)), (pre· .1 .0) .short)
+)
 
-on-function-number-at-requires : (t : ℕ) → on-function-lts.Need-number-at-requires (
-  number-at-reads.Asked,
-  number-at-reads.Learnt,
-  begin-function-reads.Asked,
-  begin-function-reads.Learnt,
-  on-params-below t,
-  on-params.Post,
-  not-kept-reads.Asked,
-  not-kept-reads.Learnt,
-  settle-frame-reads.Asked,
-  settle-frame-reads.Learnt,
-  deeper-reads.Asked,
-  deeper-reads.Learnt,
-  analyze-below t,
-  analyze.Post,
-  first-defaults-reads.Asked,
-  first-defaults-reads.Learnt,
-  finish-function-reads.Asked,
-  finish-function-reads.Learnt,
-) (on-function-at t) on-function.Post
-on-function-number-at-requires t c κs = search needs
-
-on-function-begin-function-requires :
-    (t : ℕ) → on-function-lts.Need-begin-function-requires (
-      number-at-reads.Asked,
-      number-at-reads.Learnt,
-      begin-function-reads.Asked,
-      begin-function-reads.Learnt,
-      on-params-below t,
-      on-params.Post,
-      not-kept-reads.Asked,
-      not-kept-reads.Learnt,
-      settle-frame-reads.Asked,
-      settle-frame-reads.Learnt,
-      deeper-reads.Asked,
-      deeper-reads.Learnt,
-      analyze-below t,
-      analyze.Post,
-      first-defaults-reads.Asked,
-      first-defaults-reads.Learnt,
-      finish-function-reads.Asked,
-      finish-function-reads.Learnt,
-    ) (on-function-at t) on-function.Post
-on-function-begin-function-requires t c κs =
-    let args· = c .before .before .before .before .before .before .before .before .before .before .before .args in
-    let pre· = c .before .before .before .before .before .before .before .before .before .before .before .pre in
-    let number-at· = c .before .before .before .number-at in
-    (record { levels = (args· .nest) - 1; read = (function-params-there (pre· .1 .0) (pre· .1 .1) (number-at· .ensures)) }, (function-size (args· .tree .now) (args· .nest) (args· .at) ((pre· .1 .1) .read) ((pre· .1 .1) .marked)), omega (arith, (pre· .1 .0) .short), fitting ((pre· .1 .0) .fit))
-
-on-function-enum-known-begun : (t : ℕ) → on-function-lts.Need-enum-known-begun (
-  number-at-reads.Asked,
-  number-at-reads.Learnt,
-  begin-function-reads.Asked,
-  begin-function-reads.Learnt,
-  on-params-below t,
-  on-params.Post,
-  not-kept-reads.Asked,
-  not-kept-reads.Learnt,
-  settle-frame-reads.Asked,
-  settle-frame-reads.Learnt,
-  deeper-reads.Asked,
-  deeper-reads.Learnt,
-  analyze-below t,
-  analyze.Post,
-  first-defaults-reads.Asked,
-  first-defaults-reads.Learnt,
-  finish-function-reads.Asked,
-  finish-function-reads.Learnt,
-) (on-function-at t) on-function.Post
-on-function-enum-known-begun t c = search needs
-
-on-function-enum-told : (t : ℕ) → on-function-lts.Need-enum-told (
-  number-at-reads.Asked,
-  number-at-reads.Learnt,
-  begin-function-reads.Asked,
-  begin-function-reads.Learnt,
-  on-params-below t,
-  on-params.Post,
-  not-kept-reads.Asked,
-  not-kept-reads.Learnt,
-  settle-frame-reads.Asked,
-  settle-frame-reads.Learnt,
-  deeper-reads.Asked,
-  deeper-reads.Learnt,
-  analyze-below t,
-  analyze.Post,
-  first-defaults-reads.Asked,
-  first-defaults-reads.Learnt,
-  finish-function-reads.Asked,
-  finish-function-reads.Learnt,
-) (on-function-at t) on-function.Post
-on-function-enum-told t c = search needs
-
-on-function-same-length : (t : ℕ) → on-function-lts.Need-same-length (
-  number-at-reads.Asked,
-  number-at-reads.Learnt,
-  begin-function-reads.Asked,
-  begin-function-reads.Learnt,
-  on-params-below t,
-  on-params.Post,
-  not-kept-reads.Asked,
-  not-kept-reads.Learnt,
-  settle-frame-reads.Asked,
-  settle-frame-reads.Learnt,
-  deeper-reads.Asked,
-  deeper-reads.Learnt,
-  analyze-below t,
-  analyze.Post,
-  first-defaults-reads.Asked,
-  first-defaults-reads.Learnt,
-  finish-function-reads.Asked,
-  finish-function-reads.Learnt,
-) (on-function-at t) on-function.Post
-on-function-same-length t c = c .before .before .before .before .before .before .before .before .begin-function .kept .1 .0
-
-on-function-same-length-2 : (t : ℕ) → on-function-lts.Need-same-length-2 (
-  number-at-reads.Asked,
-  number-at-reads.Learnt,
-  begin-function-reads.Asked,
-  begin-function-reads.Learnt,
-  on-params-below t,
-  on-params.Post,
-  not-kept-reads.Asked,
-  not-kept-reads.Learnt,
-  settle-frame-reads.Asked,
-  settle-frame-reads.Learnt,
-  deeper-reads.Asked,
-  deeper-reads.Learnt,
-  analyze-below t,
-  analyze.Post,
-  first-defaults-reads.Asked,
-  first-defaults-reads.Learnt,
-  finish-function-reads.Asked,
-  finish-function-reads.Learnt,
-) (on-function-at t) on-function.Post
-on-function-same-length-2 t c = c .before .before .before .before .before .before .before .before .begin-function .kept .1 .1 .0
-
-on-function-same-length-3 : (t : ℕ) → on-function-lts.Need-same-length-3 (
-  number-at-reads.Asked,
-  number-at-reads.Learnt,
-  begin-function-reads.Asked,
-  begin-function-reads.Learnt,
-  on-params-below t,
-  on-params.Post,
-  not-kept-reads.Asked,
-  not-kept-reads.Learnt,
-  settle-frame-reads.Asked,
-  settle-frame-reads.Learnt,
-  deeper-reads.Asked,
-  deeper-reads.Learnt,
-  analyze-below t,
-  analyze.Post,
-  first-defaults-reads.Asked,
-  first-defaults-reads.Learnt,
-  finish-function-reads.Asked,
-  finish-function-reads.Learnt,
-) (on-function-at t) on-function.Post
-on-function-same-length-3 t c = c .before .before .before .before .before .before .before .before .begin-function .kept .1 .1 .1 .0
-
-on-function-returns : (t : ℕ) → on-function-lts.Need-returns (
-  number-at-reads.Asked,
-  number-at-reads.Learnt,
-  begin-function-reads.Asked,
-  begin-function-reads.Learnt,
-  on-params-below t,
-  on-params.Post,
-  not-kept-reads.Asked,
-  not-kept-reads.Learnt,
-  settle-frame-reads.Asked,
-  settle-frame-reads.Learnt,
-  deeper-reads.Asked,
-  deeper-reads.Learnt,
-  analyze-below t,
-  analyze.Post,
-  first-defaults-reads.Asked,
-  first-defaults-reads.Learnt,
-  finish-function-reads.Asked,
-  finish-function-reads.Learnt,
-) (on-function-at t) on-function.Post
+on-function-returns : (t : ℕ) → on-function-lts.Need-returns (called t) (on-function-at t) on-function.Post
 unfolding place-of naming-of
 on-function-returns t c =
     let args· = c .before .before .before .before .before .before .before .before .before .before .before .before .before .before .before .before .before .before .before .before .args in
@@ -242,76 +62,7 @@ on-function-returns t c =
     let enum-told· = c .enum-told in
     function-unbegun (args· .tree .now) (args· .nest) (args· .at) (pre· .1 .1) (naming-of (args· .naming)) (place-of (args· .here)) (number-at· .ensures) (begin-function· .ensures .begun ((args· .nest) - 1) (function-params-there (pre· .1 .0) (pre· .1 .1) (number-at· .ensures)) _ _ _ ((pre· .1 .0) .fit)) (enum-told· .given .1)
 
-on-function-add-on-params : (t : ℕ) → on-function-lts.Need-add-on-params (
-  number-at-reads.Asked,
-  number-at-reads.Learnt,
-  begin-function-reads.Asked,
-  begin-function-reads.Learnt,
-  on-params-below t,
-  on-params.Post,
-  not-kept-reads.Asked,
-  not-kept-reads.Learnt,
-  settle-frame-reads.Asked,
-  settle-frame-reads.Learnt,
-  deeper-reads.Asked,
-  deeper-reads.Learnt,
-  analyze-below t,
-  analyze.Post,
-  first-defaults-reads.Asked,
-  first-defaults-reads.Learnt,
-  finish-function-reads.Asked,
-  finish-function-reads.Learnt,
-) (on-function-at t) on-function.Post
-on-function-add-on-params t c =
-    let args· = c .before .before .before .before .before .before .before .before .before .before .before .before .before .before .before .before .before .before .before .before .before .before .before .before .before .before .before .args in
-    let pre· = c .before .before .before .before .before .before .before .before .before .before .before .before .before .before .before .before .before .before .before .before .before .before .before .before .before .before .before .pre in
-    omega (arith, (function-size (args· .tree .now) (args· .nest) (args· .at) ((pre· .1 .1) .read) ((pre· .1 .1) .marked)), (pre· .1 .0) .short)
-
-on-function-sub-on-params : (t : ℕ) → on-function-lts.Need-sub-on-params (
-  number-at-reads.Asked,
-  number-at-reads.Learnt,
-  begin-function-reads.Asked,
-  begin-function-reads.Learnt,
-  on-params-below t,
-  on-params.Post,
-  not-kept-reads.Asked,
-  not-kept-reads.Learnt,
-  settle-frame-reads.Asked,
-  settle-frame-reads.Learnt,
-  deeper-reads.Asked,
-  deeper-reads.Learnt,
-  analyze-below t,
-  analyze.Post,
-  first-defaults-reads.Asked,
-  first-defaults-reads.Learnt,
-  finish-function-reads.Asked,
-  finish-function-reads.Learnt,
-) (on-function-at t) on-function.Post
-on-function-sub-on-params t c =
-    let args· = c .before .before .before .before .before .before .before .before .before .before .before .before .before .before .before .before .before .before .before .before .before .before .before .before .before .before .before .args in
-    let pre· = c .before .before .before .before .before .before .before .before .before .before .before .before .before .before .before .before .before .before .before .before .before .before .before .before .before .before .before .pre in
-    omega (arith, (expr-level (args· .tree .now) (args· .nest) any-expression (args· .at) ((pre· .1 .1) .read)))
-
-on-function-on-params-requires : (t : ℕ) → on-function-lts.Need-on-params-requires (
-  number-at-reads.Asked,
-  number-at-reads.Learnt,
-  begin-function-reads.Asked,
-  begin-function-reads.Learnt,
-  on-params-below t,
-  on-params.Post,
-  not-kept-reads.Asked,
-  not-kept-reads.Learnt,
-  settle-frame-reads.Asked,
-  settle-frame-reads.Learnt,
-  deeper-reads.Asked,
-  deeper-reads.Learnt,
-  analyze-below t,
-  analyze.Post,
-  first-defaults-reads.Asked,
-  first-defaults-reads.Learnt,
-  finish-function-reads.Asked,
-  finish-function-reads.Learnt,
-) (on-function-at t) on-function.Post
+on-function-on-params-requires : (t : ℕ) → on-function-lts.Need-on-params-requires (called t) (on-function-at t) on-function.Post
 unfolding place-of naming-of
 on-function-on-params-requires t c κs =
     let pre· = c .before .before .before .before .before .before .before .before .before .before .before .before .before .before .before .before .before .before .before .before .before .before .before .before .before .before .before .pre in
@@ -321,224 +72,7 @@ on-function-on-params-requires t c κs =
     let begun· = c .before .before .before .before .before .before .before .begun in
     (omega (arith, pre· .0, (expr-level (args· .tree .now) (args· .nest) any-expression (args· .at) ((pre· .1 .1) .read))), ((ready-on (omega arith) (omega arith) (ready-function ((args· .nest) - 1) _ ((args· .here) .depth) (pre· .1 .0) (begin-function· .ensures .begun ((args· .nest) - 1) (function-params-there (pre· .1 .0) (pre· .1 .1) (number-at· .ensures)) _ _ _ ((pre· .1 .0) .fit)) (begun· .given .1))), (function-params-there (pre· .1 .0) (pre· .1 .1) (number-at· .ensures))))
 
-on-function-enum-known-specs : (t : ℕ) → on-function-lts.Need-enum-known-specs (
-  number-at-reads.Asked,
-  number-at-reads.Learnt,
-  begin-function-reads.Asked,
-  begin-function-reads.Learnt,
-  on-params-below t,
-  on-params.Post,
-  not-kept-reads.Asked,
-  not-kept-reads.Learnt,
-  settle-frame-reads.Asked,
-  settle-frame-reads.Learnt,
-  deeper-reads.Asked,
-  deeper-reads.Learnt,
-  analyze-below t,
-  analyze.Post,
-  first-defaults-reads.Asked,
-  first-defaults-reads.Learnt,
-  finish-function-reads.Asked,
-  finish-function-reads.Learnt,
-) (on-function-at t) on-function.Post
-on-function-enum-known-specs t c = search needs
-
-on-function-enum-told-2 : (t : ℕ) → on-function-lts.Need-enum-told-2 (
-  number-at-reads.Asked,
-  number-at-reads.Learnt,
-  begin-function-reads.Asked,
-  begin-function-reads.Learnt,
-  on-params-below t,
-  on-params.Post,
-  not-kept-reads.Asked,
-  not-kept-reads.Learnt,
-  settle-frame-reads.Asked,
-  settle-frame-reads.Learnt,
-  deeper-reads.Asked,
-  deeper-reads.Learnt,
-  analyze-below t,
-  analyze.Post,
-  first-defaults-reads.Asked,
-  first-defaults-reads.Learnt,
-  finish-function-reads.Asked,
-  finish-function-reads.Learnt,
-) (on-function-at t) on-function.Post
-on-function-enum-told-2 t c = search needs
-
-on-function-not-kept-requires : (t : ℕ) → on-function-lts.Need-not-kept-requires (
-  number-at-reads.Asked,
-  number-at-reads.Learnt,
-  begin-function-reads.Asked,
-  begin-function-reads.Learnt,
-  on-params-below t,
-  on-params.Post,
-  not-kept-reads.Asked,
-  not-kept-reads.Learnt,
-  settle-frame-reads.Asked,
-  settle-frame-reads.Learnt,
-  deeper-reads.Asked,
-  deeper-reads.Learnt,
-  analyze-below t,
-  analyze.Post,
-  first-defaults-reads.Asked,
-  first-defaults-reads.Learnt,
-  finish-function-reads.Asked,
-  finish-function-reads.Learnt,
-) (on-function-at t) on-function.Post
-on-function-not-kept-requires t c κs = search needs
-
-on-function-same-length-4 : (t : ℕ) → on-function-lts.Need-same-length-4 (
-  number-at-reads.Asked,
-  number-at-reads.Learnt,
-  begin-function-reads.Asked,
-  begin-function-reads.Learnt,
-  on-params-below t,
-  on-params.Post,
-  not-kept-reads.Asked,
-  not-kept-reads.Learnt,
-  settle-frame-reads.Asked,
-  settle-frame-reads.Learnt,
-  deeper-reads.Asked,
-  deeper-reads.Learnt,
-  analyze-below t,
-  analyze.Post,
-  first-defaults-reads.Asked,
-  first-defaults-reads.Learnt,
-  finish-function-reads.Asked,
-  finish-function-reads.Learnt,
-) (on-function-at t) on-function.Post
-on-function-same-length-4 t c = c .before .before .before .before .before .before .before .before .before .before .before .before .before .before .before .on-params .kept .1 .0
-
-on-function-same-length-5 : (t : ℕ) → on-function-lts.Need-same-length-5 (
-  number-at-reads.Asked,
-  number-at-reads.Learnt,
-  begin-function-reads.Asked,
-  begin-function-reads.Learnt,
-  on-params-below t,
-  on-params.Post,
-  not-kept-reads.Asked,
-  not-kept-reads.Learnt,
-  settle-frame-reads.Asked,
-  settle-frame-reads.Learnt,
-  deeper-reads.Asked,
-  deeper-reads.Learnt,
-  analyze-below t,
-  analyze.Post,
-  first-defaults-reads.Asked,
-  first-defaults-reads.Learnt,
-  finish-function-reads.Asked,
-  finish-function-reads.Learnt,
-) (on-function-at t) on-function.Post
-on-function-same-length-5 t c = c .before .before .before .before .before .before .before .before .before .before .before .before .before .before .before .on-params .kept .1 .1 .0 ∙ c .before .before .before .before .before .before .before .before .before .before .before .before .before .before .before .before .before .before .before .before .before .before .before .before .before .before .before .before .before .before .before .begin-function .kept .1 .0
-
-on-function-same-length-6 : (t : ℕ) → on-function-lts.Need-same-length-6 (
-  number-at-reads.Asked,
-  number-at-reads.Learnt,
-  begin-function-reads.Asked,
-  begin-function-reads.Learnt,
-  on-params-below t,
-  on-params.Post,
-  not-kept-reads.Asked,
-  not-kept-reads.Learnt,
-  settle-frame-reads.Asked,
-  settle-frame-reads.Learnt,
-  deeper-reads.Asked,
-  deeper-reads.Learnt,
-  analyze-below t,
-  analyze.Post,
-  first-defaults-reads.Asked,
-  first-defaults-reads.Learnt,
-  finish-function-reads.Asked,
-  finish-function-reads.Learnt,
-) (on-function-at t) on-function.Post
-on-function-same-length-6 t c = c .before .before .before .before .before .before .before .before .before .before .before .before .before .before .before .on-params .kept .1 .1 .1 .0 ∙ c .before .before .before .before .before .before .before .before .before .before .before .before .before .before .before .before .before .before .before .before .before .before .before .before .before .before .before .before .before .before .before .begin-function .kept .1 .1 .0
-
-on-function-same-length-7 : (t : ℕ) → on-function-lts.Need-same-length-7 (
-  number-at-reads.Asked,
-  number-at-reads.Learnt,
-  begin-function-reads.Asked,
-  begin-function-reads.Learnt,
-  on-params-below t,
-  on-params.Post,
-  not-kept-reads.Asked,
-  not-kept-reads.Learnt,
-  settle-frame-reads.Asked,
-  settle-frame-reads.Learnt,
-  deeper-reads.Asked,
-  deeper-reads.Learnt,
-  analyze-below t,
-  analyze.Post,
-  first-defaults-reads.Asked,
-  first-defaults-reads.Learnt,
-  finish-function-reads.Asked,
-  finish-function-reads.Learnt,
-) (on-function-at t) on-function.Post
-on-function-same-length-7 t c = c .before .before .before .before .before .before .before .before .before .before .before .before .before .before .before .on-params .kept .1 .1 .1 .1 .0 ∙ c .before .before .before .before .before .before .before .before .before .before .before .before .before .before .before .before .before .before .before .before .before .before .before .before .before .before .before .before .before .before .before .begin-function .kept .1 .1 .1 .0
-
-on-function-same-length-8 : (t : ℕ) → on-function-lts.Need-same-length-8 (
-  number-at-reads.Asked,
-  number-at-reads.Learnt,
-  begin-function-reads.Asked,
-  begin-function-reads.Learnt,
-  on-params-below t,
-  on-params.Post,
-  not-kept-reads.Asked,
-  not-kept-reads.Learnt,
-  settle-frame-reads.Asked,
-  settle-frame-reads.Learnt,
-  deeper-reads.Asked,
-  deeper-reads.Learnt,
-  analyze-below t,
-  analyze.Post,
-  first-defaults-reads.Asked,
-  first-defaults-reads.Learnt,
-  finish-function-reads.Asked,
-  finish-function-reads.Learnt,
-) (on-function-at t) on-function.Post
-on-function-same-length-8 t c = c .before .before .before .before .before .before .before .before .before .before .before .before .before .before .before .on-params .kept .1 .1 .1 .1 .1 .0
-
-on-function-same-length-9 : (t : ℕ) → on-function-lts.Need-same-length-9 (
-  number-at-reads.Asked,
-  number-at-reads.Learnt,
-  begin-function-reads.Asked,
-  begin-function-reads.Learnt,
-  on-params-below t,
-  on-params.Post,
-  not-kept-reads.Asked,
-  not-kept-reads.Learnt,
-  settle-frame-reads.Asked,
-  settle-frame-reads.Learnt,
-  deeper-reads.Asked,
-  deeper-reads.Learnt,
-  analyze-below t,
-  analyze.Post,
-  first-defaults-reads.Asked,
-  first-defaults-reads.Learnt,
-  finish-function-reads.Asked,
-  finish-function-reads.Learnt,
-) (on-function-at t) on-function.Post
-on-function-same-length-9 t c = c .before .before .before .before .before .before .before .before .before .before .before .before .before .before .before .on-params .kept .1 .1 .1 .1 .1 .1 .0
-
-on-function-returns-2 : (t : ℕ) → on-function-lts.Need-returns-2 (
-  number-at-reads.Asked,
-  number-at-reads.Learnt,
-  begin-function-reads.Asked,
-  begin-function-reads.Learnt,
-  on-params-below t,
-  on-params.Post,
-  not-kept-reads.Asked,
-  not-kept-reads.Learnt,
-  settle-frame-reads.Asked,
-  settle-frame-reads.Learnt,
-  deeper-reads.Asked,
-  deeper-reads.Learnt,
-  analyze-below t,
-  analyze.Post,
-  first-defaults-reads.Asked,
-  first-defaults-reads.Learnt,
-  finish-function-reads.Asked,
-  finish-function-reads.Learnt,
-) (on-function-at t) on-function.Post
+on-function-returns-2 : (t : ℕ) → on-function-lts.Need-returns-2 (called t) (on-function-at t) on-function.Post
 unfolding place-of naming-of
 on-function-returns-2 t c =
     let args· = c .before .before .before .before .before .before .before .before .before .before .before .before .before .before .before .before .before .before .before .before .before .before .before .before .before .before .before .before .before .before .before .before .before .before .before .before .before .before .before .before .before .before .before .args in
@@ -551,26 +85,7 @@ on-function-returns-2 t c =
     let not-kept· = c .not-kept in
     function-params-stopped (args· .tree .now) (args· .nest) (args· .at) (pre· .1 .1) (naming-of (args· .naming)) (place-of (args· .here)) (number-at· .ensures) (begin-function· .ensures .begun ((args· .nest) - 1) (function-params-there (pre· .1 .0) (pre· .1 .1) (number-at· .ensures)) _ _ _ ((pre· .1 .0) .fit)) (begun· .given .1) (record { out = refl; diagnostics = begin-function· .kept .1 .0 }) (on-params· .ensures) (enum-told2· .given .1) (unkept (not-kept· .ensures) (enum-told2· .given .1))
 
-on-function-settle-frame-requires : (t : ℕ) → on-function-lts.Need-settle-frame-requires (
-  number-at-reads.Asked,
-  number-at-reads.Learnt,
-  begin-function-reads.Asked,
-  begin-function-reads.Learnt,
-  on-params-below t,
-  on-params.Post,
-  not-kept-reads.Asked,
-  not-kept-reads.Learnt,
-  settle-frame-reads.Asked,
-  settle-frame-reads.Learnt,
-  deeper-reads.Asked,
-  deeper-reads.Learnt,
-  analyze-below t,
-  analyze.Post,
-  first-defaults-reads.Asked,
-  first-defaults-reads.Learnt,
-  finish-function-reads.Asked,
-  finish-function-reads.Learnt,
-) (on-function-at t) on-function.Post
+on-function-settle-frame-requires : (t : ℕ) → on-function-lts.Need-settle-frame-requires (called t) (on-function-at t) on-function.Post
 unfolding place-of naming-of
 on-function-settle-frame-requires t c κs =
     let pre· = c .before .before .before .before .before .before .before .before .before .before .before .before .before .before .before .before .before .before .before .before .before .before .before .before .before .before .before .before .before .before .before .before .before .before .before .before .before .before .before .before .before .before .before .before .before .pre in
@@ -582,75 +97,7 @@ on-function-settle-frame-requires t c κs =
     let specs· = c .before .before .before .specs in
     stage-settleable (function-stage (pre· .1 .0) (pre· .1 .1) (number-at· .ensures) (begin-function· .ensures .begun ((args· .nest) - 1) (function-params-there (pre· .1 .0) (pre· .1 .1) (number-at· .ensures)) _ _ _ ((pre· .1 .0) .fit)) (begun· .given .1) (on-params· .ensures) (specs· .given .1))
 
-on-function-sub-analyze : (t : ℕ) → on-function-lts.Need-sub-analyze (
-  number-at-reads.Asked,
-  number-at-reads.Learnt,
-  begin-function-reads.Asked,
-  begin-function-reads.Learnt,
-  on-params-below t,
-  on-params.Post,
-  not-kept-reads.Asked,
-  not-kept-reads.Learnt,
-  settle-frame-reads.Asked,
-  settle-frame-reads.Learnt,
-  deeper-reads.Asked,
-  deeper-reads.Learnt,
-  analyze-below t,
-  analyze.Post,
-  first-defaults-reads.Asked,
-  first-defaults-reads.Learnt,
-  finish-function-reads.Asked,
-  finish-function-reads.Learnt,
-) (on-function-at t) on-function.Post
-on-function-sub-analyze t c =
-    let args· = c .before .before .before .before .before .before .before .before .before .before .before .before .before .before .before .before .before .before .before .before .before .before .before .before .before .before .before .before .before .before .before .before .before .before .before .before .before .before .before .before .before .before .before .before .before .before .before .before .before .before .before .before .before .before .args in
-    let pre· = c .before .before .before .before .before .before .before .before .before .before .before .before .before .before .before .before .before .before .before .before .before .before .before .before .before .before .before .before .before .before .before .before .before .before .before .before .before .before .before .before .before .before .before .before .before .before .before .before .before .before .before .before .before .before .pre in
-    omega (arith, (expr-level (args· .tree .now) (args· .nest) any-expression (args· .at) ((pre· .1 .1) .read)))
-
-on-function-deeper-requires : (t : ℕ) → on-function-lts.Need-deeper-requires (
-  number-at-reads.Asked,
-  number-at-reads.Learnt,
-  begin-function-reads.Asked,
-  begin-function-reads.Learnt,
-  on-params-below t,
-  on-params.Post,
-  not-kept-reads.Asked,
-  not-kept-reads.Learnt,
-  settle-frame-reads.Asked,
-  settle-frame-reads.Learnt,
-  deeper-reads.Asked,
-  deeper-reads.Learnt,
-  analyze-below t,
-  analyze.Post,
-  first-defaults-reads.Asked,
-  first-defaults-reads.Learnt,
-  finish-function-reads.Asked,
-  finish-function-reads.Learnt,
-) (on-function-at t) on-function.Post
-on-function-deeper-requires t c κs =
-    let pre· = c .before .before .before .before .before .before .before .before .before .before .before .before .before .before .before .before .before .before .before .before .before .before .before .before .before .before .before .before .before .before .before .before .before .before .before .before .before .before .before .before .before .before .before .before .before .before .before .before .before .before .before .before .before .before .pre in
-    omega (arith, (pre· .1 .0) .shallow)
-
-on-function-analyze-requires : (t : ℕ) → on-function-lts.Need-analyze-requires (
-  number-at-reads.Asked,
-  number-at-reads.Learnt,
-  begin-function-reads.Asked,
-  begin-function-reads.Learnt,
-  on-params-below t,
-  on-params.Post,
-  not-kept-reads.Asked,
-  not-kept-reads.Learnt,
-  settle-frame-reads.Asked,
-  settle-frame-reads.Learnt,
-  deeper-reads.Asked,
-  deeper-reads.Learnt,
-  analyze-below t,
-  analyze.Post,
-  first-defaults-reads.Asked,
-  first-defaults-reads.Learnt,
-  finish-function-reads.Asked,
-  finish-function-reads.Learnt,
-) (on-function-at t) on-function.Post
+on-function-analyze-requires : (t : ℕ) → on-function-lts.Need-analyze-requires (called t) (on-function-at t) on-function.Post
 unfolding place-of naming-of
 on-function-analyze-requires t c κs =
     let pre· = c .before .before .before .before .before .before .before .before .before .before .before .before .before .before .before .before .before .before .before .before .before .before .before .before .before .before .before .before .before .before .before .before .before .before .before .before .before .before .before .before .before .before .before .before .before .before .before .before .before .before .before .before .before .before .before .pre in
@@ -664,202 +111,7 @@ on-function-analyze-requires t c κs =
     let deeper· = c .deeper in
     (omega (arith, pre· .0, (expr-level (args· .tree .now) (args· .nest) any-expression (args· .at) ((pre· .1 .1) .read))), (stage-body (function-stage (pre· .1 .0) (pre· .1 .1) (number-at· .ensures) (begin-function· .ensures .begun ((args· .nest) - 1) (function-params-there (pre· .1 .0) (pre· .1 .1) (number-at· .ensures)) _ _ _ ((pre· .1 .0) .fit)) (begun· .given .1) (on-params· .ensures) (specs· .given .1)) (settle-frame· .ensures .becomes _ _ _ _ _ (kept-fit (on-params· .ensures) (specs· .given .1))) _ (expr-level (args· .tree .now) (args· .nest) any-expression (args· .at) ((pre· .1 .1) .read)) (deeper· .ensures .same) (deeper· .ensures .depth), (function-stage (pre· .1 .0) (pre· .1 .1) (number-at· .ensures) (begin-function· .ensures .begun ((args· .nest) - 1) (function-params-there (pre· .1 .0) (pre· .1 .1) (number-at· .ensures)) _ _ _ ((pre· .1 .0) .fit)) (begun· .given .1) (on-params· .ensures) (specs· .given .1)) .body))
 
-on-function-enum-known-w : (t : ℕ) → on-function-lts.Need-enum-known-w (
-  number-at-reads.Asked,
-  number-at-reads.Learnt,
-  begin-function-reads.Asked,
-  begin-function-reads.Learnt,
-  on-params-below t,
-  on-params.Post,
-  not-kept-reads.Asked,
-  not-kept-reads.Learnt,
-  settle-frame-reads.Asked,
-  settle-frame-reads.Learnt,
-  deeper-reads.Asked,
-  deeper-reads.Learnt,
-  analyze-below t,
-  analyze.Post,
-  first-defaults-reads.Asked,
-  first-defaults-reads.Learnt,
-  finish-function-reads.Asked,
-  finish-function-reads.Learnt,
-) (on-function-at t) on-function.Post
-on-function-enum-known-w t c = search needs
-
-on-function-enum-told-3 : (t : ℕ) → on-function-lts.Need-enum-told-3 (
-  number-at-reads.Asked,
-  number-at-reads.Learnt,
-  begin-function-reads.Asked,
-  begin-function-reads.Learnt,
-  on-params-below t,
-  on-params.Post,
-  not-kept-reads.Asked,
-  not-kept-reads.Learnt,
-  settle-frame-reads.Asked,
-  settle-frame-reads.Learnt,
-  deeper-reads.Asked,
-  deeper-reads.Learnt,
-  analyze-below t,
-  analyze.Post,
-  first-defaults-reads.Asked,
-  first-defaults-reads.Learnt,
-  finish-function-reads.Asked,
-  finish-function-reads.Learnt,
-) (on-function-at t) on-function.Post
-on-function-enum-told-3 t c = search needs
-
-on-function-same-length-10 : (t : ℕ) → on-function-lts.Need-same-length-10 (
-  number-at-reads.Asked,
-  number-at-reads.Learnt,
-  begin-function-reads.Asked,
-  begin-function-reads.Learnt,
-  on-params-below t,
-  on-params.Post,
-  not-kept-reads.Asked,
-  not-kept-reads.Learnt,
-  settle-frame-reads.Asked,
-  settle-frame-reads.Learnt,
-  deeper-reads.Asked,
-  deeper-reads.Learnt,
-  analyze-below t,
-  analyze.Post,
-  first-defaults-reads.Asked,
-  first-defaults-reads.Learnt,
-  finish-function-reads.Asked,
-  finish-function-reads.Learnt,
-) (on-function-at t) on-function.Post
-on-function-same-length-10 t c = c .before .before .before .before .before .before .before .before .before .before .before .before .before .before .analyze .kept .1 .0 ∙ c .before .before .before .before .before .before .before .before .before .before .before .before .before .before .before .before .before .before .before .before .before .before .before .before .before .before .before .before .before .before .before .before .before .before .before .before .before .before .before .before .before .before .on-params .kept .1 .0
-
-on-function-same-length-11 : (t : ℕ) → on-function-lts.Need-same-length-11 (
-  number-at-reads.Asked,
-  number-at-reads.Learnt,
-  begin-function-reads.Asked,
-  begin-function-reads.Learnt,
-  on-params-below t,
-  on-params.Post,
-  not-kept-reads.Asked,
-  not-kept-reads.Learnt,
-  settle-frame-reads.Asked,
-  settle-frame-reads.Learnt,
-  deeper-reads.Asked,
-  deeper-reads.Learnt,
-  analyze-below t,
-  analyze.Post,
-  first-defaults-reads.Asked,
-  first-defaults-reads.Learnt,
-  finish-function-reads.Asked,
-  finish-function-reads.Learnt,
-) (on-function-at t) on-function.Post
-on-function-same-length-11 t c = c .before .before .before .before .before .before .before .before .before .before .before .before .before .before .analyze .kept .1 .1 .0 ∙ c .before .before .before .before .before .before .before .before .before .before .before .before .before .before .before .before .before .before .before .before .before .before .before .before .before .before .before .before .before .before .before .before .before .before .before .before .before .before .before .before .before .before .on-params .kept .1 .1 .0 ∙ c .before .before .before .before .before .before .before .before .before .before .before .before .before .before .before .before .before .before .before .before .before .before .before .before .before .before .before .before .before .before .before .before .before .before .before .before .before .before .before .before .before .before .before .before .before .before .before .before .before .before .before .before .before .before .before .before .before .before .begin-function .kept .1 .0
-
-on-function-same-length-12 : (t : ℕ) → on-function-lts.Need-same-length-12 (
-  number-at-reads.Asked,
-  number-at-reads.Learnt,
-  begin-function-reads.Asked,
-  begin-function-reads.Learnt,
-  on-params-below t,
-  on-params.Post,
-  not-kept-reads.Asked,
-  not-kept-reads.Learnt,
-  settle-frame-reads.Asked,
-  settle-frame-reads.Learnt,
-  deeper-reads.Asked,
-  deeper-reads.Learnt,
-  analyze-below t,
-  analyze.Post,
-  first-defaults-reads.Asked,
-  first-defaults-reads.Learnt,
-  finish-function-reads.Asked,
-  finish-function-reads.Learnt,
-) (on-function-at t) on-function.Post
-on-function-same-length-12 t c = c .before .before .before .before .before .before .before .before .before .before .before .before .before .before .analyze .kept .1 .1 .1 .0 ∙ c .before .before .before .before .before .before .before .before .before .before .before .before .before .before .before .before .before .before .before .before .before .before .before .before .settle-frame .kept .0 ∙ c .before .before .before .before .before .before .before .before .before .before .before .before .before .before .before .before .before .before .before .before .before .before .before .before .before .before .before .before .before .before .before .before .before .before .before .before .before .before .before .before .before .before .on-params .kept .1 .1 .1 .0 ∙ c .before .before .before .before .before .before .before .before .before .before .before .before .before .before .before .before .before .before .before .before .before .before .before .before .before .before .before .before .before .before .before .before .before .before .before .before .before .before .before .before .before .before .before .before .before .before .before .before .before .before .before .before .before .before .before .before .before .before .begin-function .kept .1 .1 .0
-
-on-function-same-length-13 : (t : ℕ) → on-function-lts.Need-same-length-13 (
-  number-at-reads.Asked,
-  number-at-reads.Learnt,
-  begin-function-reads.Asked,
-  begin-function-reads.Learnt,
-  on-params-below t,
-  on-params.Post,
-  not-kept-reads.Asked,
-  not-kept-reads.Learnt,
-  settle-frame-reads.Asked,
-  settle-frame-reads.Learnt,
-  deeper-reads.Asked,
-  deeper-reads.Learnt,
-  analyze-below t,
-  analyze.Post,
-  first-defaults-reads.Asked,
-  first-defaults-reads.Learnt,
-  finish-function-reads.Asked,
-  finish-function-reads.Learnt,
-) (on-function-at t) on-function.Post
-on-function-same-length-13 t c = c .before .before .before .before .before .before .before .before .before .before .before .before .before .before .analyze .kept .1 .1 .1 .1 .0 ∙ c .before .before .before .before .before .before .before .before .before .before .before .before .before .before .before .before .before .before .before .before .before .before .before .before .before .before .before .before .before .before .before .before .before .before .before .before .before .before .before .before .before .before .on-params .kept .1 .1 .1 .1 .0 ∙ c .before .before .before .before .before .before .before .before .before .before .before .before .before .before .before .before .before .before .before .before .before .before .before .before .before .before .before .before .before .before .before .before .before .before .before .before .before .before .before .before .before .before .before .before .before .before .before .before .before .before .before .before .before .before .before .before .before .before .begin-function .kept .1 .1 .1 .0
-
-on-function-same-length-14 : (t : ℕ) → on-function-lts.Need-same-length-14 (
-  number-at-reads.Asked,
-  number-at-reads.Learnt,
-  begin-function-reads.Asked,
-  begin-function-reads.Learnt,
-  on-params-below t,
-  on-params.Post,
-  not-kept-reads.Asked,
-  not-kept-reads.Learnt,
-  settle-frame-reads.Asked,
-  settle-frame-reads.Learnt,
-  deeper-reads.Asked,
-  deeper-reads.Learnt,
-  analyze-below t,
-  analyze.Post,
-  first-defaults-reads.Asked,
-  first-defaults-reads.Learnt,
-  finish-function-reads.Asked,
-  finish-function-reads.Learnt,
-) (on-function-at t) on-function.Post
-on-function-same-length-14 t c = c .before .before .before .before .before .before .before .before .before .before .before .before .before .before .analyze .kept .1 .1 .1 .1 .1 .0 ∙ c .before .before .before .before .before .before .before .before .before .before .before .before .before .before .before .before .before .before .before .before .before .before .before .before .before .before .before .before .before .before .before .before .before .before .before .before .before .before .before .before .before .before .on-params .kept .1 .1 .1 .1 .1 .0
-
-on-function-same-length-15 : (t : ℕ) → on-function-lts.Need-same-length-15 (
-  number-at-reads.Asked,
-  number-at-reads.Learnt,
-  begin-function-reads.Asked,
-  begin-function-reads.Learnt,
-  on-params-below t,
-  on-params.Post,
-  not-kept-reads.Asked,
-  not-kept-reads.Learnt,
-  settle-frame-reads.Asked,
-  settle-frame-reads.Learnt,
-  deeper-reads.Asked,
-  deeper-reads.Learnt,
-  analyze-below t,
-  analyze.Post,
-  first-defaults-reads.Asked,
-  first-defaults-reads.Learnt,
-  finish-function-reads.Asked,
-  finish-function-reads.Learnt,
-) (on-function-at t) on-function.Post
-on-function-same-length-15 t c = c .before .before .before .before .before .before .before .before .before .before .before .before .before .before .analyze .kept .1 .1 .1 .1 .1 .1 .0 ∙ c .before .before .before .before .before .before .before .before .before .before .before .before .before .before .before .before .before .before .before .before .before .before .before .before .before .before .before .before .before .before .before .before .before .before .before .before .before .before .before .before .before .before .on-params .kept .1 .1 .1 .1 .1 .1 .0
-
-on-function-returns-3 : (t : ℕ) → on-function-lts.Need-returns-3 (
-  number-at-reads.Asked,
-  number-at-reads.Learnt,
-  begin-function-reads.Asked,
-  begin-function-reads.Learnt,
-  on-params-below t,
-  on-params.Post,
-  not-kept-reads.Asked,
-  not-kept-reads.Learnt,
-  settle-frame-reads.Asked,
-  settle-frame-reads.Learnt,
-  deeper-reads.Asked,
-  deeper-reads.Learnt,
-  analyze-below t,
-  analyze.Post,
-  first-defaults-reads.Asked,
-  first-defaults-reads.Learnt,
-  finish-function-reads.Asked,
-  finish-function-reads.Learnt,
-) (on-function-at t) on-function.Post
+on-function-returns-3 : (t : ℕ) → on-function-lts.Need-returns-3 (called t) (on-function-at t) on-function.Post
 unfolding place-of naming-of
 on-function-returns-3 t c =
     let args· = c .before .before .before .before .before .before .before .before .before .before .before .before .before .before .before .before .before .before .before .before .before .before .before .before .before .before .before .before .before .before .before .before .before .before .before .before .before .before .before .before .before .before .before .before .before .before .before .before .before .before .before .before .before .before .before .before .before .before .before .before .before .before .before .before .before .before .before .before .before .before .args in
@@ -874,105 +126,6 @@ on-function-returns-3 t c =
     let analyze· = c .before .before .before .before .before .before .before .before .before .before .before .before .before .before .analyze in
     let enum-told3· = c .enum-told3 in
     function-body-stopped (args· .tree .now) (args· .nest) (args· .at) (pre· .1 .1) (naming-of (args· .naming)) (place-of (args· .here)) (number-at· .ensures) (begin-function· .ensures .begun ((args· .nest) - 1) (function-params-there (pre· .1 .0) (pre· .1 .1) (number-at· .ensures)) _ _ _ ((pre· .1 .0) .fit)) (begun· .given .1) (record { out = refl; diagnostics = begin-function· .kept .1 .0 }) (on-params· .ensures) (specs· .given .1) (record { out = on-params· .kept .1 .0; diagnostics = on-params· .kept .1 .1 .0 }) (sym (references-counted (buffers (args· .out .now) (args· .diagnostics .now) (args· .locals .now) (args· .frames .now) (args· .captures .now) (args· .references .now)) (args· .st))) (settle-frame· .ensures .becomes _ _ _ _ _ (kept-fit (on-params· .ensures) (specs· .given .1))) (record { out = refl; diagnostics = refl }) (deeper· .ensures .same) (analyze· .ensures) (enum-told3· .given .1)
-
-on-function-add-first-defaults : (t : ℕ) → on-function-lts.Need-add-first-defaults (
-  number-at-reads.Asked,
-  number-at-reads.Learnt,
-  begin-function-reads.Asked,
-  begin-function-reads.Learnt,
-  on-params-below t,
-  on-params.Post,
-  not-kept-reads.Asked,
-  not-kept-reads.Learnt,
-  settle-frame-reads.Asked,
-  settle-frame-reads.Learnt,
-  deeper-reads.Asked,
-  deeper-reads.Learnt,
-  analyze-below t,
-  analyze.Post,
-  first-defaults-reads.Asked,
-  first-defaults-reads.Learnt,
-  finish-function-reads.Asked,
-  finish-function-reads.Learnt,
-) (on-function-at t) on-function.Post
-on-function-add-first-defaults t c =
-    let args· = c .before .before .before .before .before .before .before .before .before .before .before .before .before .before .before .before .before .before .before .before .before .before .before .before .before .before .before .before .before .before .before .before .before .before .before .before .before .before .before .before .before .before .before .before .before .before .before .before .before .before .before .before .before .before .before .before .before .before .before .before .before .before .before .before .before .before .before .before .before .before .before .args in
-    let pre· = c .before .before .before .before .before .before .before .before .before .before .before .before .before .before .before .before .before .before .before .before .before .before .before .before .before .before .before .before .before .before .before .before .before .before .before .before .before .before .before .before .before .before .before .before .before .before .before .before .before .before .before .before .before .before .before .before .before .before .before .before .before .before .before .before .before .before .before .before .before .before .before .pre in
-    omega (arith, (function-size (args· .tree .now) (args· .nest) (args· .at) ((pre· .1 .1) .read) ((pre· .1 .1) .marked)), (pre· .1 .0) .short)
-
-on-function-first-defaults-requires :
-    (t : ℕ) → on-function-lts.Need-first-defaults-requires (
-      number-at-reads.Asked,
-      number-at-reads.Learnt,
-      begin-function-reads.Asked,
-      begin-function-reads.Learnt,
-      on-params-below t,
-      on-params.Post,
-      not-kept-reads.Asked,
-      not-kept-reads.Learnt,
-      settle-frame-reads.Asked,
-      settle-frame-reads.Learnt,
-      deeper-reads.Asked,
-      deeper-reads.Learnt,
-      analyze-below t,
-      analyze.Post,
-      first-defaults-reads.Asked,
-      first-defaults-reads.Learnt,
-      finish-function-reads.Asked,
-      finish-function-reads.Learnt,
-    ) (on-function-at t) on-function.Post
-on-function-first-defaults-requires t c κs =
-    let pre· = c .before .before .before .before .before .before .before .before .before .before .before .before .before .before .before .before .before .before .before .before .before .before .before .before .before .before .before .before .before .before .before .before .before .before .before .before .before .before .before .before .before .before .before .before .before .before .before .before .before .before .before .before .before .before .before .before .before .before .before .before .before .before .before .before .before .before .before .before .before .before .before .pre in
-    let args· = c .before .before .before .before .before .before .before .before .before .before .before .before .before .before .before .before .before .before .before .before .before .before .before .before .before .before .before .before .before .before .before .before .before .before .before .before .before .before .before .before .before .before .before .before .before .before .before .before .before .before .before .before .before .before .before .before .before .before .before .before .before .before .before .before .before .before .before .before .before .before .before .args in
-    let number-at· = c .before .before .before .before .before .before .before .before .before .before .before .before .before .before .before .before .before .before .before .before .before .before .before .before .before .before .before .before .before .before .before .before .before .before .before .before .before .before .before .before .before .before .before .before .before .before .before .before .before .before .before .before .before .before .before .before .before .before .before .before .before .before .before .number-at in
-    ((pre· .1 .0) .short, (λ some. omega (arith, function-first-size (args· .tree .now) (args· .nest) (args· .at) ((pre· .1 .1) .read) ((pre· .1 .1) .marked) (omega (arith, some, (number-at· .ensures))))))
-
-on-function-add-number-at-2 : (t : ℕ) → on-function-lts.Need-add-number-at-2 (
-  number-at-reads.Asked,
-  number-at-reads.Learnt,
-  begin-function-reads.Asked,
-  begin-function-reads.Learnt,
-  on-params-below t,
-  on-params.Post,
-  not-kept-reads.Asked,
-  not-kept-reads.Learnt,
-  settle-frame-reads.Asked,
-  settle-frame-reads.Learnt,
-  deeper-reads.Asked,
-  deeper-reads.Learnt,
-  analyze-below t,
-  analyze.Post,
-  first-defaults-reads.Asked,
-  first-defaults-reads.Learnt,
-  finish-function-reads.Asked,
-  finish-function-reads.Learnt,
-) (on-function-at t) on-function.Post
-on-function-add-number-at-2 t c =
-    let args· = c .before .before .before .before .before .before .before .before .before .before .before .before .before .before .before .before .before .before .before .before .before .before .before .before .before .before .before .before .before .before .before .before .before .before .before .before .before .before .before .before .before .before .before .before .before .before .before .before .before .before .before .before .before .before .before .before .before .before .before .before .before .before .before .before .before .before .before .before .before .before .before .before .args in
-    let pre· = c .before .before .before .before .before .before .before .before .before .before .before .before .before .before .before .before .before .before .before .before .before .before .before .before .before .before .before .before .before .before .before .before .before .before .before .before .before .before .before .before .before .before .before .before .before .before .before .before .before .before .before .before .before .before .before .before .before .before .before .before .before .before .before .before .before .before .before .before .before .before .before .before .pre in
-    omega (arith, (function-size (args· .tree .now) (args· .nest) (args· .at) ((pre· .1 .1) .read) ((pre· .1 .1) .marked)), (pre· .1 .0) .short)
-
-on-function-number-at-requires-2 : (t : ℕ) → on-function-lts.Need-number-at-requires-2 (
-  number-at-reads.Asked,
-  number-at-reads.Learnt,
-  begin-function-reads.Asked,
-  begin-function-reads.Learnt,
-  on-params-below t,
-  on-params.Post,
-  not-kept-reads.Asked,
-  not-kept-reads.Learnt,
-  settle-frame-reads.Asked,
-  settle-frame-reads.Learnt,
-  deeper-reads.Asked,
-  deeper-reads.Learnt,
-  analyze-below t,
-  analyze.Post,
-  first-defaults-reads.Asked,
-  first-defaults-reads.Learnt,
-  finish-function-reads.Asked,
-  finish-function-reads.Learnt,
-) (on-function-at t) on-function.Post
-on-function-number-at-requires-2 t c κs = search needs
 
 on-function-finish-function-requires :
     (t : ℕ) → on-function-lts.Need-finish-function-requires (
@@ -1010,158 +163,7 @@ on-function-finish-function-requires t c κs =
     let w· = c .before .before .before .before .before .before .before .before .before .w in
     stage-ends (function-stage (pre· .1 .0) (pre· .1 .1) (number-at· .ensures) (begin-function· .ensures .begun ((args· .nest) - 1) (function-params-there (pre· .1 .0) (pre· .1 .1) (number-at· .ensures)) _ _ _ ((pre· .1 .0) .fit)) (begun· .given .1) (on-params· .ensures) (specs· .given .1)) (settle-frame· .ensures .becomes _ _ _ _ _ (kept-fit (on-params· .ensures) (specs· .given .1))) _ (expr-level (args· .tree .now) (args· .nest) any-expression (args· .at) ((pre· .1 .1) .read)) (deeper· .ensures .same) (deeper· .ensures .depth) unnamed (analyze· .ensures) (w· .given .1)
 
-on-function-same-length-16 : (t : ℕ) → on-function-lts.Need-same-length-16 (
-  number-at-reads.Asked,
-  number-at-reads.Learnt,
-  begin-function-reads.Asked,
-  begin-function-reads.Learnt,
-  on-params-below t,
-  on-params.Post,
-  not-kept-reads.Asked,
-  not-kept-reads.Learnt,
-  settle-frame-reads.Asked,
-  settle-frame-reads.Learnt,
-  deeper-reads.Asked,
-  deeper-reads.Learnt,
-  analyze-below t,
-  analyze.Post,
-  first-defaults-reads.Asked,
-  first-defaults-reads.Learnt,
-  finish-function-reads.Asked,
-  finish-function-reads.Learnt,
-) (on-function-at t) on-function.Post
-on-function-same-length-16 t c = c .before .before .before .before .before .before .before .before .finish-function .kept .0 ∙ c .before .before .before .before .before .before .before .before .before .before .before .before .before .before .before .before .before .before .before .before .before .before .before .before .before .before .before .before .before .before .before .before .analyze .kept .1 .0 ∙ c .before .before .before .before .before .before .before .before .before .before .before .before .before .before .before .before .before .before .before .before .before .before .before .before .before .before .before .before .before .before .before .before .before .before .before .before .before .before .before .before .before .before .before .before .before .before .before .before .before .before .before .before .before .before .before .before .before .before .before .before .on-params .kept .1 .0
-
-on-function-same-length-17 : (t : ℕ) → on-function-lts.Need-same-length-17 (
-  number-at-reads.Asked,
-  number-at-reads.Learnt,
-  begin-function-reads.Asked,
-  begin-function-reads.Learnt,
-  on-params-below t,
-  on-params.Post,
-  not-kept-reads.Asked,
-  not-kept-reads.Learnt,
-  settle-frame-reads.Asked,
-  settle-frame-reads.Learnt,
-  deeper-reads.Asked,
-  deeper-reads.Learnt,
-  analyze-below t,
-  analyze.Post,
-  first-defaults-reads.Asked,
-  first-defaults-reads.Learnt,
-  finish-function-reads.Asked,
-  finish-function-reads.Learnt,
-) (on-function-at t) on-function.Post
-on-function-same-length-17 t c = c .before .before .before .before .before .before .before .before .finish-function .kept .1 .0 ∙ c .before .before .before .before .before .before .before .before .before .before .before .before .before .before .before .before .before .before .before .before .before .before .before .before .before .before .before .before .before .before .before .before .analyze .kept .1 .1 .0 ∙ c .before .before .before .before .before .before .before .before .before .before .before .before .before .before .before .before .before .before .before .before .before .before .before .before .before .before .before .before .before .before .before .before .before .before .before .before .before .before .before .before .before .before .before .before .before .before .before .before .before .before .before .before .before .before .before .before .before .before .before .before .on-params .kept .1 .1 .0 ∙ c .before .before .before .before .before .before .before .before .before .before .before .before .before .before .before .before .before .before .before .before .before .before .before .before .before .before .before .before .before .before .before .before .before .before .before .before .before .before .before .before .before .before .before .before .before .before .before .before .before .before .before .before .before .before .before .before .before .before .before .before .before .before .before .before .before .before .before .before .before .before .before .before .before .before .before .before .begin-function .kept .1 .0
-
-on-function-same-length-18 : (t : ℕ) → on-function-lts.Need-same-length-18 (
-  number-at-reads.Asked,
-  number-at-reads.Learnt,
-  begin-function-reads.Asked,
-  begin-function-reads.Learnt,
-  on-params-below t,
-  on-params.Post,
-  not-kept-reads.Asked,
-  not-kept-reads.Learnt,
-  settle-frame-reads.Asked,
-  settle-frame-reads.Learnt,
-  deeper-reads.Asked,
-  deeper-reads.Learnt,
-  analyze-below t,
-  analyze.Post,
-  first-defaults-reads.Asked,
-  first-defaults-reads.Learnt,
-  finish-function-reads.Asked,
-  finish-function-reads.Learnt,
-) (on-function-at t) on-function.Post
-on-function-same-length-18 t c = c .before .before .before .before .before .before .before .before .finish-function .kept .1 .1 .0 ∙ c .before .before .before .before .before .before .before .before .before .before .before .before .before .before .before .before .before .before .before .before .before .before .before .before .before .before .before .before .before .before .before .before .analyze .kept .1 .1 .1 .0 ∙ c .before .before .before .before .before .before .before .before .before .before .before .before .before .before .before .before .before .before .before .before .before .before .before .before .before .before .before .before .before .before .before .before .before .before .before .before .before .before .before .before .before .before .settle-frame .kept .0 ∙ c .before .before .before .before .before .before .before .before .before .before .before .before .before .before .before .before .before .before .before .before .before .before .before .before .before .before .before .before .before .before .before .before .before .before .before .before .before .before .before .before .before .before .before .before .before .before .before .before .before .before .before .before .before .before .before .before .before .before .before .before .on-params .kept .1 .1 .1 .0 ∙ c .before .before .before .before .before .before .before .before .before .before .before .before .before .before .before .before .before .before .before .before .before .before .before .before .before .before .before .before .before .before .before .before .before .before .before .before .before .before .before .before .before .before .before .before .before .before .before .before .before .before .before .before .before .before .before .before .before .before .before .before .before .before .before .before .before .before .before .before .before .before .before .before .before .before .before .before .begin-function .kept .1 .1 .0
-
-on-function-same-length-19 : (t : ℕ) → on-function-lts.Need-same-length-19 (
-  number-at-reads.Asked,
-  number-at-reads.Learnt,
-  begin-function-reads.Asked,
-  begin-function-reads.Learnt,
-  on-params-below t,
-  on-params.Post,
-  not-kept-reads.Asked,
-  not-kept-reads.Learnt,
-  settle-frame-reads.Asked,
-  settle-frame-reads.Learnt,
-  deeper-reads.Asked,
-  deeper-reads.Learnt,
-  analyze-below t,
-  analyze.Post,
-  first-defaults-reads.Asked,
-  first-defaults-reads.Learnt,
-  finish-function-reads.Asked,
-  finish-function-reads.Learnt,
-) (on-function-at t) on-function.Post
-on-function-same-length-19 t c = c .before .before .before .before .before .before .before .before .before .before .before .before .before .before .before .before .before .before .before .before .before .before .before .before .before .before .before .before .before .before .before .before .analyze .kept .1 .1 .1 .1 .0 ∙ c .before .before .before .before .before .before .before .before .before .before .before .before .before .before .before .before .before .before .before .before .before .before .before .before .before .before .before .before .before .before .before .before .before .before .before .before .before .before .before .before .before .before .before .before .before .before .before .before .before .before .before .before .before .before .before .before .before .before .before .before .on-params .kept .1 .1 .1 .1 .0 ∙ c .before .before .before .before .before .before .before .before .before .before .before .before .before .before .before .before .before .before .before .before .before .before .before .before .before .before .before .before .before .before .before .before .before .before .before .before .before .before .before .before .before .before .before .before .before .before .before .before .before .before .before .before .before .before .before .before .before .before .before .before .before .before .before .before .before .before .before .before .before .before .before .before .before .before .before .before .begin-function .kept .1 .1 .1 .0
-
-on-function-same-length-20 : (t : ℕ) → on-function-lts.Need-same-length-20 (
-  number-at-reads.Asked,
-  number-at-reads.Learnt,
-  begin-function-reads.Asked,
-  begin-function-reads.Learnt,
-  on-params-below t,
-  on-params.Post,
-  not-kept-reads.Asked,
-  not-kept-reads.Learnt,
-  settle-frame-reads.Asked,
-  settle-frame-reads.Learnt,
-  deeper-reads.Asked,
-  deeper-reads.Learnt,
-  analyze-below t,
-  analyze.Post,
-  first-defaults-reads.Asked,
-  first-defaults-reads.Learnt,
-  finish-function-reads.Asked,
-  finish-function-reads.Learnt,
-) (on-function-at t) on-function.Post
-on-function-same-length-20 t c = c .before .before .before .before .before .before .before .before .finish-function .kept .1 .1 .1 .1 .0 ∙ c .before .before .before .before .before .before .before .before .before .before .before .before .before .before .before .before .before .before .before .before .before .before .before .before .before .before .before .before .before .before .before .before .analyze .kept .1 .1 .1 .1 .1 .0 ∙ c .before .before .before .before .before .before .before .before .before .before .before .before .before .before .before .before .before .before .before .before .before .before .before .before .before .before .before .before .before .before .before .before .before .before .before .before .before .before .before .before .before .before .before .before .before .before .before .before .before .before .before .before .before .before .before .before .before .before .before .before .on-params .kept .1 .1 .1 .1 .1 .0
-
-on-function-same-length-21 : (t : ℕ) → on-function-lts.Need-same-length-21 (
-  number-at-reads.Asked,
-  number-at-reads.Learnt,
-  begin-function-reads.Asked,
-  begin-function-reads.Learnt,
-  on-params-below t,
-  on-params.Post,
-  not-kept-reads.Asked,
-  not-kept-reads.Learnt,
-  settle-frame-reads.Asked,
-  settle-frame-reads.Learnt,
-  deeper-reads.Asked,
-  deeper-reads.Learnt,
-  analyze-below t,
-  analyze.Post,
-  first-defaults-reads.Asked,
-  first-defaults-reads.Learnt,
-  finish-function-reads.Asked,
-  finish-function-reads.Learnt,
-) (on-function-at t) on-function.Post
-on-function-same-length-21 t c = c .before .before .before .before .before .before .before .before .before .before .before .before .before .before .before .before .before .before .before .before .before .before .before .before .before .before .before .before .before .before .before .before .analyze .kept .1 .1 .1 .1 .1 .1 .0 ∙ c .before .before .before .before .before .before .before .before .before .before .before .before .before .before .before .before .before .before .before .before .before .before .before .before .before .before .before .before .before .before .before .before .before .before .before .before .before .before .before .before .before .before .before .before .before .before .before .before .before .before .before .before .before .before .before .before .before .before .before .before .on-params .kept .1 .1 .1 .1 .1 .1 .0
-
-on-function-returns-4 : (t : ℕ) → on-function-lts.Need-returns-4 (
-  number-at-reads.Asked,
-  number-at-reads.Learnt,
-  begin-function-reads.Asked,
-  begin-function-reads.Learnt,
-  on-params-below t,
-  on-params.Post,
-  not-kept-reads.Asked,
-  not-kept-reads.Learnt,
-  settle-frame-reads.Asked,
-  settle-frame-reads.Learnt,
-  deeper-reads.Asked,
-  deeper-reads.Learnt,
-  analyze-below t,
-  analyze.Post,
-  first-defaults-reads.Asked,
-  first-defaults-reads.Learnt,
-  finish-function-reads.Asked,
-  finish-function-reads.Learnt,
-) (on-function-at t) on-function.Post
+on-function-returns-4 : (t : ℕ) → on-function-lts.Need-returns-4 (called t) (on-function-at t) on-function.Post
 unfolding place-of naming-of
 on-function-returns-4 t c =
     let args· = c .before .before .before .before .before .before .before .before .before .before .before .before .before .before .before .before .before .before .before .before .before .before .before .before .before .before .before .before .before .before .before .before .before .before .before .before .before .before .before .before .before .before .before .before .before .before .before .before .before .before .before .before .before .before .before .before .before .before .before .before .before .before .before .before .before .before .before .before .before .before .before .before .before .before .before .before .before .before .before .before .before .before .before .before .before .before .before .before .args in
@@ -1180,92 +182,83 @@ on-function-returns-4 t c =
     let finish-function· = c .before .before .before .before .before .before .before .before .finish-function in
     function-ended (args· .tree .now) (args· .nest) (args· .at) (pre· .1 .1) (naming-of (args· .naming)) (place-of (args· .here)) (number-at· .ensures) (begin-function· .ensures .begun ((args· .nest) - 1) (function-params-there (pre· .1 .0) (pre· .1 .1) (number-at· .ensures)) _ _ _ ((pre· .1 .0) .fit)) (begun· .given .1) (record { out = refl; diagnostics = begin-function· .kept .1 .0 }) (on-params· .ensures) (specs· .given .1) (record { out = on-params· .kept .1 .0; diagnostics = on-params· .kept .1 .1 .0 }) (sym (references-counted (buffers (args· .out .now) (args· .diagnostics .now) (args· .locals .now) (args· .frames .now) (args· .captures .now) (args· .references .now)) (args· .st))) (settle-frame· .ensures .becomes _ _ _ _ _ (kept-fit (on-params· .ensures) (specs· .given .1))) (record { out = refl; diagnostics = refl }) (deeper· .ensures .same) (analyze· .ensures) (w· .given .1) (record { out = analyze· .kept .1 .0; diagnostics = analyze· .kept .1 .1 .0 }) (number-at2· .ensures) (written-counted _ _ ((pre· .1 .0) .fit)) (written-counted _ _ (kept-fit (on-params· .ensures) (specs· .given .1))) (first-defaults· .ensures) (finish-function· .ensures)
 
-pub on-function-met : {M : Type 1} (t : ℕ) → on-function-lts.Closed (
-  number-at-reads.Asked,
-  number-at-reads.Learnt,
-  begin-function-reads.Asked,
-  begin-function-reads.Learnt,
-  on-params-below t,
-  on-params.Post,
-  not-kept-reads.Asked,
-  not-kept-reads.Learnt,
-  settle-frame-reads.Asked,
-  settle-frame-reads.Learnt,
-  deeper-reads.Asked,
-  deeper-reads.Learnt,
-  analyze-below t,
-  analyze.Post,
-  first-defaults-reads.Asked,
-  first-defaults-reads.Learnt,
-  finish-function-reads.Asked,
-  finish-function-reads.Learnt,
-) (on-function-at t) on-function.Post M
-on-function-met t = on-function-lts.spec (
-  number-at-reads.Asked,
-  number-at-reads.Learnt,
-  begin-function-reads.Asked,
-  begin-function-reads.Learnt,
-  on-params-below t,
-  on-params.Post,
-  not-kept-reads.Asked,
-  not-kept-reads.Learnt,
-  settle-frame-reads.Asked,
-  settle-frame-reads.Learnt,
-  deeper-reads.Asked,
-  deeper-reads.Learnt,
-  analyze-below t,
-  analyze.Post,
-  first-defaults-reads.Asked,
-  first-defaults-reads.Learnt,
-  finish-function-reads.Asked,
-  finish-function-reads.Learnt,
-)
+pub on-function-met : {M : Type 1} (t : ℕ) → on-function-lts.Closed (called t) (on-function-at t) on-function.Post M
+on-function-met t = on-function-lts.spec
+    (called t)
     (on-function-at t)
     on-function.Post
-    (on-function-add-number-at t)
-    (on-function-number-at-requires t)
-    (on-function-begin-function-requires t)
-    (on-function-enum-known-begun t)
-    (on-function-enum-told t)
-    (on-function-same-length t)
-    (on-function-same-length-2 t)
-    (on-function-same-length-3 t)
+    (λ c.  -- add-number-at
+    let args· = c .before .before .before .before .before .before .before .args in
+    let pre· = c .before .before .before .before .before .before .before .pre in
+    omega (arith, (function-size (args· .tree .now) (args· .nest) (args· .at) ((pre· .1 .1) .read) ((pre· .1 .1) .marked)), (pre· .1 .0) .short))
+    (λ c κs. search needs)  -- number-at-requires
+    (λ c κs.  -- begin-function-requires
+    let args· = c .before .before .before .before .before .before .before .before .before .before .before .args in
+    let pre· = c .before .before .before .before .before .before .before .before .before .before .before .pre in
+    let number-at· = c .before .before .before .number-at in
+    (record { levels = (args· .nest) - 1; read = (function-params-there (pre· .1 .0) (pre· .1 .1) (number-at· .ensures)) }, (function-size (args· .tree .now) (args· .nest) (args· .at) ((pre· .1 .1) .read) ((pre· .1 .1) .marked)), omega (arith, (pre· .1 .0) .short), fitting ((pre· .1 .0) .fit)))
+    (λ c. search needs)  -- enum-known-begun
+    (λ c. search needs)  -- enum-told
+    (λ c. c .before .before .before .before .before .before .before .before .begin-function .kept .1 .0)  -- same-length
+    (λ c. c .before .before .before .before .before .before .before .before .begin-function .kept .1 .1 .0)  -- same-length-2
+    (λ c. c .before .before .before .before .before .before .before .before .begin-function .kept .1 .1 .1 .0)  -- same-length-3
     (on-function-returns t)
-    (on-function-add-on-params t)
-    (on-function-sub-on-params t)
+    (λ c.  -- add-on-params
+    let args· = c .before .before .before .before .before .before .before .before .before .before .before .before .before .before .before .before .before .before .before .before .before .before .before .before .before .before .before .args in
+    let pre· = c .before .before .before .before .before .before .before .before .before .before .before .before .before .before .before .before .before .before .before .before .before .before .before .before .before .before .before .pre in
+    omega (arith, (function-size (args· .tree .now) (args· .nest) (args· .at) ((pre· .1 .1) .read) ((pre· .1 .1) .marked)), (pre· .1 .0) .short))
+    (λ c.  -- sub-on-params
+    let args· = c .before .before .before .before .before .before .before .before .before .before .before .before .before .before .before .before .before .before .before .before .before .before .before .before .before .before .before .args in
+    let pre· = c .before .before .before .before .before .before .before .before .before .before .before .before .before .before .before .before .before .before .before .before .before .before .before .before .before .before .before .pre in
+    omega (arith, (expr-level (args· .tree .now) (args· .nest) any-expression (args· .at) ((pre· .1 .1) .read))))
     (on-function-on-params-requires t)
-    (on-function-enum-known-specs t)
-    (on-function-enum-told-2 t)
-    (on-function-not-kept-requires t)
-    (on-function-same-length-4 t)
-    (on-function-same-length-5 t)
-    (on-function-same-length-6 t)
-    (on-function-same-length-7 t)
-    (on-function-same-length-8 t)
-    (on-function-same-length-9 t)
+    (λ c. search needs)  -- enum-known-specs
+    (λ c. search needs)  -- enum-told-2
+    (λ c κs. search needs)  -- not-kept-requires
+    (λ c. c .before .before .before .before .before .before .before .before .before .before .before .before .before .before .before .on-params .kept .1 .0)  -- same-length-4
+    (λ c. c .before .before .before .before .before .before .before .before .before .before .before .before .before .before .before .on-params .kept .1 .1 .0 ∙ c .before .before .before .before .before .before .before .before .before .before .before .before .before .before .before .before .before .before .before .before .before .before .before .before .before .before .before .before .before .before .before .begin-function .kept .1 .0)  -- same-length-5
+    (λ c. c .before .before .before .before .before .before .before .before .before .before .before .before .before .before .before .on-params .kept .1 .1 .1 .0 ∙ c .before .before .before .before .before .before .before .before .before .before .before .before .before .before .before .before .before .before .before .before .before .before .before .before .before .before .before .before .before .before .before .begin-function .kept .1 .1 .0)  -- same-length-6
+    (λ c. c .before .before .before .before .before .before .before .before .before .before .before .before .before .before .before .on-params .kept .1 .1 .1 .1 .0 ∙ c .before .before .before .before .before .before .before .before .before .before .before .before .before .before .before .before .before .before .before .before .before .before .before .before .before .before .before .before .before .before .before .begin-function .kept .1 .1 .1 .0)  -- same-length-7
+    (λ c. c .before .before .before .before .before .before .before .before .before .before .before .before .before .before .before .on-params .kept .1 .1 .1 .1 .1 .0)  -- same-length-8
+    (λ c. c .before .before .before .before .before .before .before .before .before .before .before .before .before .before .before .on-params .kept .1 .1 .1 .1 .1 .1 .0)  -- same-length-9
     (on-function-returns-2 t)
     (on-function-settle-frame-requires t)
-    (on-function-sub-analyze t)
-    (on-function-deeper-requires t)
+    (λ c.  -- sub-analyze
+    let args· = c .before .before .before .before .before .before .before .before .before .before .before .before .before .before .before .before .before .before .before .before .before .before .before .before .before .before .before .before .before .before .before .before .before .before .before .before .before .before .before .before .before .before .before .before .before .before .before .before .before .before .before .before .before .before .args in
+    let pre· = c .before .before .before .before .before .before .before .before .before .before .before .before .before .before .before .before .before .before .before .before .before .before .before .before .before .before .before .before .before .before .before .before .before .before .before .before .before .before .before .before .before .before .before .before .before .before .before .before .before .before .before .before .before .before .pre in
+    omega (arith, (expr-level (args· .tree .now) (args· .nest) any-expression (args· .at) ((pre· .1 .1) .read))))
+    (λ c κs.  -- deeper-requires
+    let pre· = c .before .before .before .before .before .before .before .before .before .before .before .before .before .before .before .before .before .before .before .before .before .before .before .before .before .before .before .before .before .before .before .before .before .before .before .before .before .before .before .before .before .before .before .before .before .before .before .before .before .before .before .before .before .before .pre in
+    omega (arith, (pre· .1 .0) .shallow))
     (on-function-analyze-requires t)
-    (on-function-enum-known-w t)
-    (on-function-enum-told-3 t)
-    (on-function-same-length-10 t)
-    (on-function-same-length-11 t)
-    (on-function-same-length-12 t)
-    (on-function-same-length-13 t)
-    (on-function-same-length-14 t)
-    (on-function-same-length-15 t)
+    (λ c. search needs)  -- enum-known-w
+    (λ c. search needs)  -- enum-told-3
+    (λ c. c .before .before .before .before .before .before .before .before .before .before .before .before .before .before .analyze .kept .1 .0 ∙ c .before .before .before .before .before .before .before .before .before .before .before .before .before .before .before .before .before .before .before .before .before .before .before .before .before .before .before .before .before .before .before .before .before .before .before .before .before .before .before .before .before .before .on-params .kept .1 .0)  -- same-length-10
+    (λ c. c .before .before .before .before .before .before .before .before .before .before .before .before .before .before .analyze .kept .1 .1 .0 ∙ c .before .before .before .before .before .before .before .before .before .before .before .before .before .before .before .before .before .before .before .before .before .before .before .before .before .before .before .before .before .before .before .before .before .before .before .before .before .before .before .before .before .before .on-params .kept .1 .1 .0 ∙ c .before .before .before .before .before .before .before .before .before .before .before .before .before .before .before .before .before .before .before .before .before .before .before .before .before .before .before .before .before .before .before .before .before .before .before .before .before .before .before .before .before .before .before .before .before .before .before .before .before .before .before .before .before .before .before .before .before .before .begin-function .kept .1 .0)  -- same-length-11
+    (λ c. c .before .before .before .before .before .before .before .before .before .before .before .before .before .before .analyze .kept .1 .1 .1 .0 ∙ c .before .before .before .before .before .before .before .before .before .before .before .before .before .before .before .before .before .before .before .before .before .before .before .before .settle-frame .kept .0 ∙ c .before .before .before .before .before .before .before .before .before .before .before .before .before .before .before .before .before .before .before .before .before .before .before .before .before .before .before .before .before .before .before .before .before .before .before .before .before .before .before .before .before .before .on-params .kept .1 .1 .1 .0 ∙ c .before .before .before .before .before .before .before .before .before .before .before .before .before .before .before .before .before .before .before .before .before .before .before .before .before .before .before .before .before .before .before .before .before .before .before .before .before .before .before .before .before .before .before .before .before .before .before .before .before .before .before .before .before .before .before .before .before .before .begin-function .kept .1 .1 .0)  -- same-length-12
+    (λ c. c .before .before .before .before .before .before .before .before .before .before .before .before .before .before .analyze .kept .1 .1 .1 .1 .0 ∙ c .before .before .before .before .before .before .before .before .before .before .before .before .before .before .before .before .before .before .before .before .before .before .before .before .before .before .before .before .before .before .before .before .before .before .before .before .before .before .before .before .before .before .on-params .kept .1 .1 .1 .1 .0 ∙ c .before .before .before .before .before .before .before .before .before .before .before .before .before .before .before .before .before .before .before .before .before .before .before .before .before .before .before .before .before .before .before .before .before .before .before .before .before .before .before .before .before .before .before .before .before .before .before .before .before .before .before .before .before .before .before .before .before .before .begin-function .kept .1 .1 .1 .0)  -- same-length-13
+    (λ c. c .before .before .before .before .before .before .before .before .before .before .before .before .before .before .analyze .kept .1 .1 .1 .1 .1 .0 ∙ c .before .before .before .before .before .before .before .before .before .before .before .before .before .before .before .before .before .before .before .before .before .before .before .before .before .before .before .before .before .before .before .before .before .before .before .before .before .before .before .before .before .before .on-params .kept .1 .1 .1 .1 .1 .0)  -- same-length-14
+    (λ c. c .before .before .before .before .before .before .before .before .before .before .before .before .before .before .analyze .kept .1 .1 .1 .1 .1 .1 .0 ∙ c .before .before .before .before .before .before .before .before .before .before .before .before .before .before .before .before .before .before .before .before .before .before .before .before .before .before .before .before .before .before .before .before .before .before .before .before .before .before .before .before .before .before .on-params .kept .1 .1 .1 .1 .1 .1 .0)  -- same-length-15
     (on-function-returns-3 t)
-    (on-function-add-first-defaults t)
-    (on-function-first-defaults-requires t)
-    (on-function-add-number-at-2 t)
-    (on-function-number-at-requires-2 t)
+    (λ c.  -- add-first-defaults
+    let args· = c .before .before .before .before .before .before .before .before .before .before .before .before .before .before .before .before .before .before .before .before .before .before .before .before .before .before .before .before .before .before .before .before .before .before .before .before .before .before .before .before .before .before .before .before .before .before .before .before .before .before .before .before .before .before .before .before .before .before .before .before .before .before .before .before .before .before .before .before .before .before .before .args in
+    let pre· = c .before .before .before .before .before .before .before .before .before .before .before .before .before .before .before .before .before .before .before .before .before .before .before .before .before .before .before .before .before .before .before .before .before .before .before .before .before .before .before .before .before .before .before .before .before .before .before .before .before .before .before .before .before .before .before .before .before .before .before .before .before .before .before .before .before .before .before .before .before .before .before .pre in
+    omega (arith, (function-size (args· .tree .now) (args· .nest) (args· .at) ((pre· .1 .1) .read) ((pre· .1 .1) .marked)), (pre· .1 .0) .short))
+    (λ c κs.  -- first-defaults-requires
+    let pre· = c .before .before .before .before .before .before .before .before .before .before .before .before .before .before .before .before .before .before .before .before .before .before .before .before .before .before .before .before .before .before .before .before .before .before .before .before .before .before .before .before .before .before .before .before .before .before .before .before .before .before .before .before .before .before .before .before .before .before .before .before .before .before .before .before .before .before .before .before .before .before .before .pre in
+    let args· = c .before .before .before .before .before .before .before .before .before .before .before .before .before .before .before .before .before .before .before .before .before .before .before .before .before .before .before .before .before .before .before .before .before .before .before .before .before .before .before .before .before .before .before .before .before .before .before .before .before .before .before .before .before .before .before .before .before .before .before .before .before .before .before .before .before .before .before .before .before .before .before .args in
+    let number-at· = c .before .before .before .before .before .before .before .before .before .before .before .before .before .before .before .before .before .before .before .before .before .before .before .before .before .before .before .before .before .before .before .before .before .before .before .before .before .before .before .before .before .before .before .before .before .before .before .before .before .before .before .before .before .before .before .before .before .before .before .before .before .before .before .number-at in
+    ((pre· .1 .0) .short, (λ some. omega (arith, function-first-size (args· .tree .now) (args· .nest) (args· .at) ((pre· .1 .1) .read) ((pre· .1 .1) .marked) (omega (arith, some, (number-at· .ensures)))))))
+    (λ c.  -- add-number-at-2
+    let args· = c .before .before .before .before .before .before .before .before .before .before .before .before .before .before .before .before .before .before .before .before .before .before .before .before .before .before .before .before .before .before .before .before .before .before .before .before .before .before .before .before .before .before .before .before .before .before .before .before .before .before .before .before .before .before .before .before .before .before .before .before .before .before .before .before .before .before .before .before .before .before .before .before .args in
+    let pre· = c .before .before .before .before .before .before .before .before .before .before .before .before .before .before .before .before .before .before .before .before .before .before .before .before .before .before .before .before .before .before .before .before .before .before .before .before .before .before .before .before .before .before .before .before .before .before .before .before .before .before .before .before .before .before .before .before .before .before .before .before .before .before .before .before .before .before .before .before .before .before .before .before .pre in
+    omega (arith, (function-size (args· .tree .now) (args· .nest) (args· .at) ((pre· .1 .1) .read) ((pre· .1 .1) .marked)), (pre· .1 .0) .short))
+    (λ c κs. search needs)  -- number-at-requires-2
     (on-function-finish-function-requires t)
-    (on-function-same-length-16 t)
-    (on-function-same-length-17 t)
-    (on-function-same-length-18 t)
-    (on-function-same-length-19 t)
-    (on-function-same-length-20 t)
-    (on-function-same-length-21 t)
+    (λ c. c .before .before .before .before .before .before .before .before .finish-function .kept .0 ∙ c .before .before .before .before .before .before .before .before .before .before .before .before .before .before .before .before .before .before .before .before .before .before .before .before .before .before .before .before .before .before .before .before .analyze .kept .1 .0 ∙ c .before .before .before .before .before .before .before .before .before .before .before .before .before .before .before .before .before .before .before .before .before .before .before .before .before .before .before .before .before .before .before .before .before .before .before .before .before .before .before .before .before .before .before .before .before .before .before .before .before .before .before .before .before .before .before .before .before .before .before .before .on-params .kept .1 .0)  -- same-length-16
+    (λ c. c .before .before .before .before .before .before .before .before .finish-function .kept .1 .0 ∙ c .before .before .before .before .before .before .before .before .before .before .before .before .before .before .before .before .before .before .before .before .before .before .before .before .before .before .before .before .before .before .before .before .analyze .kept .1 .1 .0 ∙ c .before .before .before .before .before .before .before .before .before .before .before .before .before .before .before .before .before .before .before .before .before .before .before .before .before .before .before .before .before .before .before .before .before .before .before .before .before .before .before .before .before .before .before .before .before .before .before .before .before .before .before .before .before .before .before .before .before .before .before .before .on-params .kept .1 .1 .0 ∙ c .before .before .before .before .before .before .before .before .before .before .before .before .before .before .before .before .before .before .before .before .before .before .before .before .before .before .before .before .before .before .before .before .before .before .before .before .before .before .before .before .before .before .before .before .before .before .before .before .before .before .before .before .before .before .before .before .before .before .before .before .before .before .before .before .before .before .before .before .before .before .before .before .before .before .before .before .begin-function .kept .1 .0)  -- same-length-17
+    (λ c. c .before .before .before .before .before .before .before .before .finish-function .kept .1 .1 .0 ∙ c .before .before .before .before .before .before .before .before .before .before .before .before .before .before .before .before .before .before .before .before .before .before .before .before .before .before .before .before .before .before .before .before .analyze .kept .1 .1 .1 .0 ∙ c .before .before .before .before .before .before .before .before .before .before .before .before .before .before .before .before .before .before .before .before .before .before .before .before .before .before .before .before .before .before .before .before .before .before .before .before .before .before .before .before .before .before .settle-frame .kept .0 ∙ c .before .before .before .before .before .before .before .before .before .before .before .before .before .before .before .before .before .before .before .before .before .before .before .before .before .before .before .before .before .before .before .before .before .before .before .before .before .before .before .before .before .before .before .before .before .before .before .before .before .before .before .before .before .before .before .before .before .before .before .before .on-params .kept .1 .1 .1 .0 ∙ c .before .before .before .before .before .before .before .before .before .before .before .before .before .before .before .before .before .before .before .before .before .before .before .before .before .before .before .before .before .before .before .before .before .before .before .before .before .before .before .before .before .before .before .before .before .before .before .before .before .before .before .before .before .before .before .before .before .before .before .before .before .before .before .before .before .before .before .before .before .before .before .before .before .before .before .before .begin-function .kept .1 .1 .0)  -- same-length-18
+    (λ c. c .before .before .before .before .before .before .before .before .before .before .before .before .before .before .before .before .before .before .before .before .before .before .before .before .before .before .before .before .before .before .before .before .analyze .kept .1 .1 .1 .1 .0 ∙ c .before .before .before .before .before .before .before .before .before .before .before .before .before .before .before .before .before .before .before .before .before .before .before .before .before .before .before .before .before .before .before .before .before .before .before .before .before .before .before .before .before .before .before .before .before .before .before .before .before .before .before .before .before .before .before .before .before .before .before .before .on-params .kept .1 .1 .1 .1 .0 ∙ c .before .before .before .before .before .before .before .before .before .before .before .before .before .before .before .before .before .before .before .before .before .before .before .before .before .before .before .before .before .before .before .before .before .before .before .before .before .before .before .before .before .before .before .before .before .before .before .before .before .before .before .before .before .before .before .before .before .before .before .before .before .before .before .before .before .before .before .before .before .before .before .before .before .before .before .before .begin-function .kept .1 .1 .1 .0)  -- same-length-19
+    (λ c. c .before .before .before .before .before .before .before .before .finish-function .kept .1 .1 .1 .1 .0 ∙ c .before .before .before .before .before .before .before .before .before .before .before .before .before .before .before .before .before .before .before .before .before .before .before .before .before .before .before .before .before .before .before .before .analyze .kept .1 .1 .1 .1 .1 .0 ∙ c .before .before .before .before .before .before .before .before .before .before .before .before .before .before .before .before .before .before .before .before .before .before .before .before .before .before .before .before .before .before .before .before .before .before .before .before .before .before .before .before .before .before .before .before .before .before .before .before .before .before .before .before .before .before .before .before .before .before .before .before .on-params .kept .1 .1 .1 .1 .1 .0)  -- same-length-20
+    (λ c. c .before .before .before .before .before .before .before .before .before .before .before .before .before .before .before .before .before .before .before .before .before .before .before .before .before .before .before .before .before .before .before .before .analyze .kept .1 .1 .1 .1 .1 .1 .0 ∙ c .before .before .before .before .before .before .before .before .before .before .before .before .before .before .before .before .before .before .before .before .before .before .before .before .before .before .before .before .before .before .before .before .before .before .before .before .before .before .before .before .before .before .before .before .before .before .before .before .before .before .before .before .before .before .before .before .before .before .before .before .on-params .kept .1 .1 .1 .1 .1 .1 .0)  -- same-length-21
     (on-function-returns-4 t)

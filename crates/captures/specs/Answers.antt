@@ -1,8 +1,0 @@
--- What a put leaves. Assumes nothing.
-use mathlib.Core.List.{List}
-use Prim.Native.Nat.{ℕ}
-use Rattle.tables.specs.Rows.{Put}
-use Rattle.captures.specs.Meaning.{Logged, log-of}
-
-abbrev pub PutCapture : (before after : List ℕ) → (i : ℕ) → Logged → Type 0
-PutCapture before after i e = Put log-of before after i e

@@ -1,9 +1,0 @@
--- What storing a local leaves of the table. Assumes nothing.
-use Prim.Native.Nat.{ℕ}
-use mathlib.Core.List.{List}
-use Rattle.rules.specs.Locals.{LocalDefinition}
-use Rattle.tables.specs.Rows.{Put}
-use Rattle.entries.specs.Meaning.{locals-of}
-
-abbrev pub PutLocal : (before after : List ℕ) → (id : ℕ) → LocalDefinition → Type 0
-PutLocal before after id l = Put locals-of before after id l
