@@ -24,7 +24,7 @@ from pathlib import Path
 
 REPOSITORY = Path(__file__).resolve().parents[2]
 DEFINITION = REPOSITORY / "crates" / "rules"
-CASES = REPOSITORY / "tests" / "vectors" / "definition.txt"
+CASES = REPOSITORY / "tests" / "stored" / "definition.txt"
 ORIGINS = {"0": "Rust", "1": "model", "2": "hand"}
 
 # what the checker says of a theorem that does not hold
@@ -309,7 +309,7 @@ def selftest(checker, cases, size, at_once):
 
 def arguments():
     parser = argparse.ArgumentParser(description=__doc__, formatter_class=argparse.RawDescriptionHelpFormatter)
-    parser.add_argument("cases", nargs="?", type=Path, default=CASES, help="the file of cases (default: tests/vectors/definition.txt)")
+    parser.add_argument("cases", nargs="?", type=Path, default=CASES, help="the file of cases (default: tests/stored/definition.txt)")
     parser.add_argument("--batch", type=int, default=20, metavar="N", help="cases in one theorem (default: 20)")
     parser.add_argument("--at-once", type=int, default=200, metavar="N", help="cases in one run of the checker (default: 200)")
     parser.add_argument("--rt", default="rt", metavar="COMMAND", help="the command that checks a crate (default: rt)")

@@ -62,7 +62,7 @@ pub struct Record<'a> {
     pub mark: [u8; 2],
     /// The numbers that every record with that mark has.
     pub fields: Numbers<'a>,
-    /// The numbers behind them, whose count one of the fields tells (`AC`, `SH`).
+    /// The numbers after them, whose count one of the fields tells (`AC`, `SH`).
     pub tail: Numbers<'a>,
 }
 

@@ -1,7 +1,7 @@
 //! The starred cases of document 01 with whole answers (crates/rules/specs/Cases.antt), and refusals.
 
-use packed::text::parse;
 use tsilmogar::{Analyzer, Code, Depths, Diagnostic, Kind, Level, Limits, Refusal, analyze};
+use wire::text::parse;
 
 struct Case {
     tree: &'static str,

@@ -3,8 +3,8 @@
 mod common;
 
 use common::stored;
-use packed::text::parse;
 use tsilmogar::{Damaged, Diagnostics, Records};
+use wire::text::parse;
 
 /// Reads to the end, and a step further. At most one error, the last; returns how many records came before it.
 fn read<T>(mut items: impl Iterator<Item = Result<T, Damaged>>) -> (usize, Option<usize>) {
@@ -14,10 +14,10 @@ fn read<T>(mut items: impl Iterator<Item = Result<T, Damaged>>) -> (usize, Optio
             whole += 1;
             continue;
         };
-        assert!(items.next().is_none(), "nothing behind an error");
+        assert!(items.next().is_none(), "nothing after an error");
         return (whole, Some(offset));
     }
-    assert!(items.next().is_none(), "nothing behind the end");
+    assert!(items.next().is_none(), "nothing after the end");
     (whole, None)
 }
 
@@ -77,7 +77,7 @@ fn marks_and_codes_that_there_are_not() {
 #[test]
 fn damage_never_panics() {
     let mut changed = 0;
-    for answer in stored().into_iter().step_by(8).map(|vector| vector.answer) {
+    for answer in stored().into_iter().step_by(8).map(|call| call.answer) {
         for mut bytes in [answer.out, answer.diagnostics] {
             for at in 0..bytes.len().min(120) {
                 let before = bytes[at];

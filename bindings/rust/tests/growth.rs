@@ -3,8 +3,8 @@
 mod common;
 
 use common::{NOTHING, stored};
-use packed::text::parse;
 use tsilmogar::{Analyzer, Kind, Limits, analyze};
+use wire::text::parse;
 
 /// The refusal for too little of one of the six, and limits with so much of it and much of the rest.
 type Part = (Kind, fn(usize) -> Limits);
@@ -59,9 +59,9 @@ fn a_cap_that_is_reached_is_the_refusal() {
 #[test]
 fn growing_from_nothing_gives_the_same_answers() {
     let mut usual = Analyzer::default();
-    for vector in stored() {
-        let grown = Analyzer::new(NOTHING, Limits::CAP).analyze(&vector.tree);
-        assert_eq!(grown, usual.analyze(&vector.tree));
+    for call in stored() {
+        let grown = Analyzer::new(NOTHING, Limits::CAP).analyze(&call.tree);
+        assert_eq!(grown, usual.analyze(&call.tree));
     }
 }
 

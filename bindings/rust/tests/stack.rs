@@ -1,12 +1,12 @@
 //! Trees nested 200 deep in every form, with a name at the bottom that every frame must capture, on a small stack.
 
-use packed::text::parse;
 use tsilmogar::analyze;
+use wire::text::parse;
 
 /// Half of what a thread of Rust usually has.
 const STACK: usize = 1 << 20;
 
-/// What stands before and behind the expression one or two levels further in.
+/// What stands before and after the expression one or two levels further in.
 const FORMS: [(usize, &str, &str); 24] = [
     (1, "UN 0", ""),
     (1, "BI 0, TV 1", ""),
@@ -35,12 +35,12 @@ const FORMS: [(usize, &str, &str); 24] = [
 ];
 
 /// The external name 9 at level 199 or 200.
-fn nested((levels, before, behind): (usize, &str, &str)) -> Vec<u8> {
+fn nested((levels, before, after): (usize, &str, &str)) -> Vec<u8> {
     let times = 199 / levels;
     let mut tree = parse("JT 1 9");
     tree.extend(parse(before).repeat(times));
     tree.extend(parse("VA 9 9"));
-    tree.extend(parse(behind).repeat(times));
+    tree.extend(parse(after).repeat(times));
     tree
 }
 

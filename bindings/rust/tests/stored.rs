@@ -2,11 +2,11 @@
 
 mod common;
 
-use common::{NOTHING, Vector, limits_of, stored};
-use packed::text::{dump_diagnostics, dump_output};
-use packed::{Answer, Lent};
+use common::{NOTHING, StoredCall, limits_of, stored};
 use tsilmogar::sys::{self, Table};
 use tsilmogar::{Analysis, Analyzer, Level, Refusal};
+use wire::text::{dump_diagnostics, dump_output};
+use wire::{Answer, Lent};
 
 /// The answer in the form in which it is stored.
 fn answer(found: &Result<Analysis, Refusal>) -> Answer {
@@ -35,21 +35,20 @@ fn answer(found: &Result<Analysis, Refusal>) -> Answer {
 /// 2,139 of them are accepted; those that the first walk refuses don't depend on what is lent.
 #[test]
 fn with_the_usual_limits() {
-    let settled = |vector: &&Vector| {
-        matches!(vector.answer.number, 0..=5)
-            || vector.answer.place == 0 && vector.answer.number == 11
+    let settled = |call: &&StoredCall| {
+        matches!(call.answer.number, 0..=5) || call.answer.place == 0 && call.answer.number == 11
     };
-    let vectors = stored();
+    let calls = stored();
     let mut analyzer = Analyzer::default();
     let (mut accepted, mut refused) = (0, 0);
-    for vector in vectors.iter().filter(settled) {
-        assert_eq!(answer(&analyzer.analyze(&vector.tree)), vector.answer);
-        match vector.answer.number {
+    for call in calls.iter().filter(settled) {
+        assert_eq!(answer(&analyzer.analyze(&call.tree)), call.answer);
+        match call.answer.number {
             0 => accepted += 1,
             _ => refused += 1,
         }
     }
-    assert_eq!((vectors.len(), accepted, refused), (3630, 2139, 396));
+    assert_eq!((calls.len(), accepted, refused), (3630, 2139, 396));
 }
 
 /// Growing to just what a call was lent ends with that call's answer, a refusal's number and place too: what happens
@@ -57,9 +56,9 @@ fn with_the_usual_limits() {
 #[test]
 fn growing_to_what_was_lent() {
     let mut replayed = 0;
-    for vector in stored().iter().filter(|vector| vector.answer.number != 13) {
-        let found = Analyzer::new(NOTHING, limits_of(&vector.lent)).analyze(&vector.tree);
-        assert_eq!(answer(&found), vector.answer);
+    for call in stored().iter().filter(|call| call.answer.number != 13) {
+        let found = Analyzer::new(NOTHING, limits_of(&call.lent)).analyze(&call.tree);
+        assert_eq!(answer(&found), call.answer);
         replayed += 1;
     }
     assert_eq!(replayed, 3606);
@@ -99,7 +98,7 @@ fn lent_call(lent: &Lent, tree: &[u8]) -> Answer {
     assert!(
         written
             .iter_mut()
-            .all(|(_, behind)| behind.iter().all(|&byte| byte == 0))
+            .all(|(_, after)| after.iter().all(|&byte| byte == 0))
     );
     Answer {
         number: number as u32,
@@ -114,21 +113,21 @@ fn lent_call(lent: &Lent, tree: &[u8]) -> Answer {
 
 #[test]
 fn with_just_what_was_lent() {
-    for vector in stored() {
-        assert_eq!(lent_call(&vector.lent, &vector.tree), vector.answer);
+    for call in stored() {
+        assert_eq!(lent_call(&call.lent, &call.tree), call.answer);
     }
 }
 
 /// Four analysers at once, each over all calls.
 #[test]
 fn in_several_threads() {
-    let vectors = stored();
+    let calls = stored();
     std::thread::scope(|scope| {
         for _ in 0..4 {
             scope.spawn(|| {
                 let mut analyzer = Analyzer::default();
-                for vector in vectors.iter().filter(|vector| vector.answer.number == 0) {
-                    assert_eq!(answer(&analyzer.analyze(&vector.tree)), vector.answer);
+                for call in calls.iter().filter(|call| call.answer.number == 0) {
+                    assert_eq!(answer(&analyzer.analyze(&call.tree)), call.answer);
                 }
             });
         }
@@ -180,6 +179,6 @@ fn diagnostics_are_read_whole() {
 }
 
 fn accepted() -> impl Iterator<Item = Answer> {
-    let answers = stored().into_iter().map(|vector| vector.answer);
+    let answers = stored().into_iter().map(|call| call.answer);
     answers.filter(|answer| answer.number == 0)
 }

@@ -1,7 +1,7 @@
 //! One call of the library: what it is lent, and all that can be seen after it.
 
-use packed::{Answer, Lent};
 use tsilmogar::sys::{self, Table};
+use wire::{Answer, Lent};
 
 use crate::lending::{Lending, Number};
 
@@ -37,17 +37,13 @@ pub fn call(lent: &Lent, tree: &[u8], seed: u64) -> Seen {
 
 impl Memory {
     pub fn new(lent: &Lent, seed: u64) -> Memory {
-        let tables = [lent.locals, lent.frames, lent.captures, lent.references];
         Memory {
-            limits: [
-                lent.max_locals,
-                lent.max_frames,
-                lent.max_captures,
-                lent.max_references,
-            ],
+            limits: lent.limits(),
             out: Lending::new(lent.out as usize, seed),
             diagnostics: Lending::new(lent.diagnostics as usize, seed),
-            tables: tables.map(|length| Lending::new(length as usize, seed)),
+            tables: lent
+                .tables()
+                .map(|length| Lending::new(length as usize, seed)),
             report: Lending::new(9, seed),
         }
     }
@@ -146,7 +142,7 @@ fn flag(value: u64, faults: &mut Vec<String>) -> bool {
 #[cfg(test)]
 mod tests {
     use super::*;
-    use packed::text::parse;
+    use wire::text::parse;
 
     #[test]
     fn worked_case_1() {

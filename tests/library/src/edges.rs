@@ -1,6 +1,6 @@
 //! Case 9 of document 01: trees at the edges of 16 bits and of the longest tree.
 
-use packed::{Lent, put};
+use wire::{Lent, put};
 
 /// The most locals of a frame.
 const MOST: u32 = 65_535;
@@ -182,7 +182,7 @@ fn captures(count: u32, in_array: bool) -> Vec<u8> {
     tree
 }
 
-/// A whole tree of twelve bytes, and more behind it.
+/// A whole tree of twelve bytes, and more after it.
 fn extra_bytes(length: usize) -> Vec<u8> {
     let mut tree = header(0);
     put(&mut tree, b"TV", &[0]);

@@ -54,8 +54,8 @@ impl<T: Number> Lending<T> {
     }
 
     pub fn guards_stand(&self) -> bool {
-        let behind = GUARD + self.length();
-        let mut guards = (0..GUARD).chain(behind..self.all.len());
+        let after = GUARD + self.length();
+        let mut guards = (0..GUARD).chain(after..self.all.len());
         guards.all(|at| self.all[at] == garbage(self.seed, at))
     }
 

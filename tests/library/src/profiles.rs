@@ -3,7 +3,7 @@
 use std::fs;
 use std::path::{Path, PathBuf};
 
-use packed::put;
+use wire::put;
 
 /// As deep as one block of nested LO goes.
 const BLOCK: u32 = 190;

@@ -4,9 +4,9 @@ use std::collections::BTreeMap;
 use std::hash::{DefaultHasher, Hash, Hasher};
 use std::process::ExitCode;
 
-use packed::text::dump_tree;
-use packed::{Answer, Lent};
-use runs::differences::{differing, show};
+use trials::differences::{differing, show};
+use wire::text::dump_tree;
+use wire::{Answer, Lent};
 
 use crate::call::Seen;
 

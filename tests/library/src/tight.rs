@@ -1,9 +1,9 @@
 //! What is lent around what a tree needs, and damaged bytes: some calls for each generated tree.
 
 use generator::{Mode, Random, damage, limits};
-use model::{Peak, Room};
-use packed::text::{record_length, tree_width};
-use packed::{Lent, put};
+use model::{Peak, with_amount};
+use wire::text::{record_length, tree_width};
+use wire::{Lent, put};
 
 /// What is lent, and the bytes.
 pub type Call = (Lent, Vec<u8>);
@@ -17,7 +17,7 @@ pub fn roomier(seed: u64, needed: &Lent) -> Lent {
     let most = random.pick(&[2, 8, 8, 64, 64, 1024]);
     let mut more = |amount: u32| amount + random.within(1, most) as u32;
     let exact = Lent::exact(
-        limits_of(needed).map(&mut more),
+        needed.limits().map(&mut more),
         more(needed.out),
         more(needed.diagnostics),
     );
@@ -81,7 +81,7 @@ fn runs_out(random: &mut Random, needed: &Lent, peaks: &[Peak]) -> Lent {
 
 /// A limit that its table doesn't hold, by one number or by so much that 16 times the limit wraps.
 fn with_a_short_table(random: &mut Random, needed: &Lent) -> Lent {
-    let mut limits = limits_of(needed);
+    let mut limits = needed.limits();
     let chosen = random.below(4);
     limits[chosen] = random.pick(&[limits[chosen] + 1, 1 << 28, (1 << 28) + 1, u32::MAX]);
     let [max_locals, max_frames, max_captures, max_references] = limits;
@@ -102,26 +102,6 @@ fn with_a_short_table(random: &mut Random, needed: &Lent) -> Lent {
         *table += 15;
     }
     lent
-}
-
-fn with_amount(lent: &Lent, room: Room, amount: u32) -> Lent {
-    let mut limits = limits_of(lent);
-    let (mut out, mut diagnostics) = (lent.out, lent.diagnostics);
-    match room {
-        Room::Out => out = amount,
-        Room::Diagnostics => diagnostics = amount,
-        limited => limits[limited as usize] = amount,
-    }
-    Lent::exact(limits, out, diagnostics)
-}
-
-fn limits_of(lent: &Lent) -> [u32; 4] {
-    [
-        lent.max_locals,
-        lent.max_frames,
-        lent.max_captures,
-        lent.max_references,
-    ]
 }
 
 #[cfg(test)]

@@ -6,8 +6,8 @@
 use std::hint::black_box;
 use std::time::{Duration, Instant};
 
-use packed::Lent;
 use plain::{Expr, Externals};
+use wire::Lent;
 
 use crate::call::Memory;
 

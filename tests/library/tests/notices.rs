@@ -6,7 +6,7 @@ use std::process::Command;
 const PROGRAMS: [(&str, &str, u64); 4] = [
     (env!("CARGO_BIN_EXE_library"), "--trees 700 --seed 1", 700),
     (env!("CARGO_BIN_EXE_tight"), "--calls 700 --seed 1", 700),
-    (env!("CARGO_BIN_EXE_vectors"), "", 3630),
+    (env!("CARGO_BIN_EXE_stored"), "", 3630),
     (env!("CARGO_BIN_EXE_edges"), "--only bytes", 3),
 ];
 const SPEED: &str = env!("CARGO_BIN_EXE_speed");

@@ -1,12 +1,9 @@
 //! The stored calls (tests/README.md), and what several tests share.
 #![allow(dead_code)]
 
-#[path = "../../../../tests/oracle/vectors/src/container.rs"]
-mod container;
-
-pub use container::Vector;
-use packed::Lent;
 use tsilmogar::Limits;
+use wire::Lent;
+pub use wire::stored::StoredCall;
 
 const STORED: &str = concat!(env!("CARGO_MANIFEST_DIR"), "/../../crates/gate_calls/stdin");
 
@@ -19,8 +16,8 @@ pub const NOTHING: Limits = Limits {
     diagnostics: 0,
 };
 
-pub fn stored() -> Vec<Vector> {
-    container::unpack(&std::fs::read(STORED).expect("the stored calls"))
+pub fn stored() -> Vec<StoredCall> {
+    wire::stored::unpack(&std::fs::read(STORED).expect("the stored calls"))
 }
 
 /// What a stored call was lent, where its tables fit its limits.

@@ -8,8 +8,8 @@ use std::time::Instant;
 use library::call::call;
 use library::edges::{Edge, edges};
 use library::tally::Tally;
-use packed::Answer;
-use runs::{arguments, with_deep_stack};
+use trials::{arguments, with_deep_stack};
+use wire::Answer;
 
 fn main() -> ExitCode {
     with_deep_stack(run)

@@ -7,7 +7,7 @@ use std::process::ExitCode;
 use library::call::call;
 use library::tally::Tally;
 use library::tight::roomier;
-use runs::{arguments, trees, with_deep_stack};
+use trials::{arguments, trees, with_deep_stack};
 
 fn main() -> ExitCode {
     with_deep_stack(compare)

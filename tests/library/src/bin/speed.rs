@@ -10,8 +10,7 @@ use std::str::FromStr;
 
 use library::profiles::{PROFILES, Profile, UNKIND, examples_folder, packed_in};
 use library::timing::{Spread, Subject, Timed, spread};
-use packed::Lent;
-use runs::{arguments, with_deep_stack};
+use trials::{arguments, with_deep_stack};
 
 const SIZES: [u32; 4] = [10, 100, 1_000, 4_000];
 const DOUBLING: [u32; 6] = [125, 250, 500, 1_000, 2_000, 4_000];
@@ -27,21 +26,21 @@ fn main() {
 
 fn run() {
     let rounds = arguments::value("--rounds", 51).max(1);
-    if let Some(words) = words_behind("--calls") {
+    if let Some(words) = words_after("--calls") {
         calls(&words);
-    } else if let Some(words) = words_behind("--rust-calls") {
+    } else if let Some(words) = words_after("--rust-calls") {
         rust_calls(&words);
-    } else if let Some(words) = words_behind("--examples") {
+    } else if let Some(words) = words_after("--examples") {
         let named = words.first().filter(|word| !word.starts_with("--"));
         examples(named.map_or_else(examples_folder, PathBuf::from), rounds);
-    } else if words_behind("--growth").is_some() {
+    } else if words_after("--growth").is_some() {
         growth(rounds);
     } else {
         table(rounds);
     }
 }
 
-fn words_behind(name: &str) -> Option<Vec<String>> {
+fn words_after(name: &str) -> Option<Vec<String>> {
     let mut words = std::env::args().skip_while(|word| word != name);
     words.next().map(|_| words.collect())
 }
@@ -91,16 +90,9 @@ fn row(what: &str, mut timed: Timed, rounds: usize) {
         least,
         greatest,
     } = spread((0..rounds).map(|_| ratio(timed.round())).collect());
-    let Lent {
-        max_locals,
-        max_frames,
-        max_captures,
-        max_references,
-        ..
-    } = timed.subject.needed;
+    let [l, f, c, r] = timed.subject.needed.limits();
     println!(
-        "| {what} | {} | {max_locals}, {max_frames}, {max_captures}, {max_references} \
-         | {median:.2} | {least:.2} | {greatest:.2} |",
+        "| {what} | {} | {l}, {f}, {c}, {r} | {median:.2} | {least:.2} | {greatest:.2} |",
         timed.subject.tree.len(),
     );
 }

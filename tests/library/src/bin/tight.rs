@@ -8,7 +8,7 @@ use generator::Mode;
 use library::call::call;
 use library::tally::Tally;
 use library::tight::calls;
-use runs::{arguments, with_deep_stack};
+use trials::{arguments, with_deep_stack};
 
 fn main() -> ExitCode {
     with_deep_stack(compare)

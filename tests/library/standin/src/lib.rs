@@ -2,7 +2,7 @@
 
 mod wrong;
 
-use packed::{Answer, Lent};
+use wire::{Answer, Lent};
 
 /// All that a call may write to.
 struct Buffers<'a> {
@@ -13,7 +13,7 @@ struct Buffers<'a> {
 }
 
 /// # Safety
-/// Each pointer is to so many numbers as the length behind it says, the report to nine.
+/// Each pointer is to so many numbers as the length after it says, the report to nine.
 #[unsafe(no_mangle)]
 pub unsafe extern "C" fn tsilmogar_analyze(
     tree: *const u8,

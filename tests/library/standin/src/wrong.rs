@@ -69,7 +69,7 @@ fn leave(table: &mut [u32]) -> bool {
     table.last_mut().map(|number| *number = 1).is_some()
 }
 
-/// One number behind a buffer, where the programs keep a guard that isn't 0.
+/// One number after a buffer, where the programs keep a guard that isn't 0.
 fn beside<T: Default>(end: *mut T) -> bool {
     // SAFETY: not for any caller, only for those beside this folder.
     unsafe { end.write(T::default()) };

@@ -1,7 +1,7 @@
 //! Trees that are spoilt a little, for the refusals of the first walk.
 
-use packed::text::{record_length, tree_width};
-use packed::{number, put};
+use wire::text::{record_length, tree_width};
+use wire::{number, put};
 
 use crate::random::Random;
 

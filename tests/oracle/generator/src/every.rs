@@ -1,7 +1,7 @@
 //! Every tree of a few expressions, two names and the forms that matter for scoping: nothing is left to chance there.
 
-use packed::put;
-use packed::text::{record_length, tree_width};
+use wire::put;
+use wire::text::{record_length, tree_width};
 
 const NAMES: [u32; 2] = [1, 2];
 
@@ -265,8 +265,8 @@ fn sequences<T: Clone>(items: &[T], count: usize) -> Vec<Vec<T>> {
 #[cfg(test)]
 mod tests {
     use super::*;
-    use packed::text::dump_tree;
     use std::collections::HashSet;
+    use wire::text::dump_tree;
 
     #[test]
     fn small_trees_are_whole_and_all_different() {

@@ -1,6 +1,6 @@
 //! Grows one tree, record by record, in the order of the packed form.
 
-use packed::put;
+use wire::put;
 
 use crate::random::Random;
 use crate::taste::{Form, Taste, random_number};
@@ -331,7 +331,7 @@ impl Grower {
         }
     }
 
-    /// `$` behind the outermost object is outside again.
+    /// `$` after the outermost object is outside again.
     fn dollar_after(&mut self, level: usize, budget: usize) {
         let op = self.opaque();
         self.put(b"BI", &[op]);
@@ -437,7 +437,7 @@ impl Grower {
         }
     }
 
-    /// `function(x) x`, with a dropped parameter behind it or its body in an empty local now and then.
+    /// `function(x) x`, with a dropped parameter after it or its body in an empty local now and then.
     fn identity_function(&mut self, level: usize) {
         let name = self.pool_name();
         let dropped = if self.random.percent(self.taste.duplicate) {

@@ -23,7 +23,7 @@ pub fn tree(seed: u64, mode: Mode) -> Vec<u8> {
 #[cfg(test)]
 mod tests {
     use super::*;
-    use packed::text::dump_tree;
+    use wire::text::dump_tree;
 
     #[test]
     fn the_same_seed_gives_the_same_tree() {

@@ -1,6 +1,6 @@
 //! What a caller lends: exactly what a tree needs, a little less somewhere, or more.
 
-use packed::Lent;
+use wire::Lent;
 
 use crate::random::Random;
 
@@ -19,12 +19,7 @@ pub fn limits(seed: u64, needed: Lent) -> Lent {
 
 /// Mostly by one, else to anything below; its table shrinks with a limit.
 fn lessen_one(random: &mut Random, lent: &mut Lent) {
-    let mut limits = [
-        lent.max_locals,
-        lent.max_frames,
-        lent.max_captures,
-        lent.max_references,
-    ];
+    let mut limits = lent.limits();
     let mut buffers = [lent.out, lent.diagnostics];
     let chosen = random.below(6);
     let lessened = if chosen < 4 {

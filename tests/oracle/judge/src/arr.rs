@@ -3,7 +3,10 @@
 use std::cell::RefCell;
 use std::panic::Location;
 
-use crate::lines;
+/// Where the file calls `arridx`: once a spec and round, and once a local at a frame's end.
+mod lines {
+    include!(concat!(env!("OUT_DIR"), "/lines.rs"));
+}
 
 /// The calls of `arridx` in order; equal ones that follow each other are counted.
 #[derive(Clone, Copy, Debug, PartialEq, Eq)]

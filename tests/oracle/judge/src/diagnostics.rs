@@ -1,6 +1,6 @@
 //! The Rust's diagnostics as `DG` records: the code and the name come from the message's text.
 
-use packed::put;
+use wire::put;
 
 use crate::analyze::{DiagLevel, Diagnostic};
 

@@ -1,36 +1,27 @@
 //! The judge: the Rust's own `analyze.rs`, compiled as it stands, on packed trees of document 01.
 //!
-//! Around it stand modules of the names it asks its crate for (`arr`, `error`, `gc`, `obj`, the macro `names!`),
-//! and a bridge: `reader` builds the Rust's tree, `writer` and `diagnostics` pack what comes out of it, `rounds`
-//! tells the rounds of the settling loops from the calls of `arridx`.
+//! Around it stand the modules that it asks its crate for (`arr`, and those that `plain` has too) and a bridge: `reader`
+//! builds the Rust's tree, `writer` and `diagnostics` pack what comes out of it, `rounds` tells the rounds of the
+//! settling loops from the calls of `arridx`.
 
 mod arr;
 mod diagnostics;
-mod error;
-mod gc;
-mod obj;
 mod reader;
 mod rounds;
 mod writer;
 
 include!(concat!(env!("OUT_DIR"), "/unchanged.rs"));
 
-/// Functions that give interned strings.
-macro_rules! names {
-    ($($name:ident: $text:literal,)*) => {
-        $(pub fn $name() -> jrsonnet_interner::IStr {
-            jrsonnet_interner::IStr::from($text)
-        })*
-    };
-}
-pub(crate) use names;
+// The file asks its crate for these and for `arr`.
+use jrsonnet_evaluator::{error, gc, names, obj};
 
 use jrsonnet_interner::IStr;
-use packed::Answer;
+pub use reader::read;
+use wire::Answer;
 
 /// What the Rust says of a tree that the first walk accepts; anything else may panic.
 pub fn run(tree: &[u8]) -> Answer {
-    let (externals, expr) = reader::read(tree);
+    let (externals, expr) = read(tree);
     let context = externals
         .into_iter()
         .zip(0..)

@@ -36,7 +36,7 @@ impl<'a> Reader<'a> {
 
     fn number(&mut self) -> u32 {
         self.at += 4;
-        packed::number(self.tree, self.at - 4)
+        wire::number(self.tree, self.at - 4)
     }
 
     fn flag(&mut self) -> bool {

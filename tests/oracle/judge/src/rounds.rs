@@ -1,7 +1,7 @@
 //! The rounds of all settling loops, told from the calls of `arridx`.
 //!
 //! In each round each loop asks `arridx` once for each spec of its frame. Whatever opens a frame asks for the next
-//! id first, and a frame that has specs has a local, which is drained behind its second loop; so a run of these
+//! id first, and a frame that has specs has a local, which is drained after its second loop; so a run of these
 //! calls is of one frame, and a walk over the tree in the Rust's order knows of which. A frame without specs asks
 //! for none and goes once through each loop.
 

@@ -1,7 +1,7 @@
 //! The worked cases of document 01 ("Profiles tried by hand") and the readings that the Rust can show.
 
-use packed::Answer;
-use packed::text::{dump_diagnostics, dump_output, parse};
+use wire::Answer;
+use wire::text::{dump_diagnostics, dump_output, parse};
 
 const NONE: u32 = u32::MAX;
 
@@ -130,7 +130,7 @@ fn rounds_grow_with_a_chain() {
 }
 
 #[test]
-fn reading_17_named_arguments_stand_behind_their_value() {
+fn reading_17_named_arguments_stand_after_their_value() {
     let (out, _) = texts("JT 0, AP 0 1 0 7, TV 1, NA 5, TV 2");
     assert_eq!(out, "TV 1, TV 2, NA 5, AP 0 1 0 7, SH 0 0");
 }

@@ -10,7 +10,7 @@ use jrsonnet_ir::{
     ArgsDesc, AssertStmt, BindSpec, Expr, ExprParam, ExprParams, FieldMember, FieldName, IndexPart,
     ObjBody, ObjMembers, Slice, TrivialVal, Visibility,
 };
-use packed::put;
+use wire::put;
 
 use crate::analyze::{
     AnalysisReport, ClosureShape, LArgsDesc, LAssertStmt, LBind, LDestruct, LExpr, LFieldMember,

@@ -13,7 +13,7 @@ use crate::room::{Refusal, Room, Rooms};
 use crate::tree::{
     Bind, BindValue, Expression, Function, Head, Kind, Object, Parameter, Part, Tree,
 };
-use packed::Answer;
+use wire::Answer;
 
 /// No depth at all: unused, or dependent on nothing.
 const NEVER: u32 = u32::MAX;
@@ -241,7 +241,7 @@ impl Analysis {
         } else {
             self.rooms.take(Room::Out, bytes, at)?;
         }
-        packed::put(&mut self.out, mark, numbers);
+        wire::put(&mut self.out, mark, numbers);
         Ok(())
     }
 
@@ -254,7 +254,7 @@ impl Analysis {
         let warning = code >= UNUSED;
         self.errored |= !warning || self.faulty(Fault::WarningsAreErrors);
         self.rooms.take(Room::Diagnostics, 18, at)?;
-        packed::put(
+        wire::put(
             &mut self.diagnostics,
             b"DG",
             &[u32::from(warning), code, name, span],

@@ -1,8 +1,8 @@
 //! Answers worked out by hand: the worked cases of document 01 and the examples of its agreed readings.
 //! Names: a 1, b 2, external 4, x 5, y 6, t 7, z 8, unbound 99; constants 3 and 9; every other number is a span.
 
-use packed::Answer;
-use packed::text::parse;
+use wire::Answer;
+use wire::text::parse;
 
 pub struct Case {
     /// The tree in Jsonnet, and what it shows.

@@ -1,4 +1,4 @@
-//! Deliberate faults, one at a time, so that stored vectors can be seen to notice each.
+//! Deliberate faults, one at a time, so that stored calls can be seen to notice each.
 
 macro_rules! faults {
     ($($name:ident: $says:literal,)*) => {
@@ -29,7 +29,7 @@ faults! {
     ConstantItemsNested: "items of a constant array count for nesting",
     EmptyArrayNotConstant: "AR 0 is not constant",
     NamesBeforeCount: "the externals' names are asked for before their count is judged",
-    ExtraBytesAllowed: "bytes behind the expression are accepted",
+    ExtraBytesAllowed: "bytes after the expression are accepted",
     ImportKindJudged: "an import kind over 2 is refused",
     ExtendingObjectNoLevel: "the object of OX is no level of nesting",
     BoundFunctionNoLevel: "the function of BF is no level of nesting",

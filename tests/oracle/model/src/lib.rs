@@ -11,10 +11,10 @@ mod walk;
 mod tests;
 
 pub use fault::Fault;
-use packed::{Answer, Lent};
 use room::{Amounts, Refusal, Rooms};
-pub use room::{Peak, Room};
+pub use room::{Peak, Room, amounts, with_amount};
 use tree::Tree;
+use wire::{Answer, Lent};
 
 const LARGEST_TREE: usize = 16_777_216;
 const NUMBERS_AN_ENTRY: u64 = 16;
@@ -88,12 +88,8 @@ fn tables_suffice(fault: Option<Fault>, lent: &Lent) -> bool {
         Some(Fault::TableLengthWraps) => u64::from((NUMBERS_AN_ENTRY as u32).wrapping_mul(limit)),
         _ => NUMBERS_AN_ENTRY * u64::from(limit),
     };
-    [
-        (lent.locals, lent.max_locals),
-        (lent.frames, lent.max_frames),
-        (lent.captures, lent.max_captures),
-        (lent.references, lent.max_references),
-    ]
-    .iter()
-    .all(|&(length, limit)| u64::from(length) >= asked(limit))
+    lent.tables()
+        .into_iter()
+        .zip(lent.limits())
+        .all(|(length, limit)| u64::from(length) >= asked(limit))
 }

@@ -1,6 +1,6 @@
 //! What a caller lends, counted: each kind of room has a limit, what is in use and its peak.
 
-use packed::Lent;
+use wire::Lent;
 
 #[derive(Debug)]
 pub struct Refusal {
@@ -19,6 +19,15 @@ pub enum Room {
 }
 
 impl Room {
+    pub const ALL: [Room; 6] = [
+        Room::Locals,
+        Room::Frames,
+        Room::Captures,
+        Room::References,
+        Room::Out,
+        Room::Diagnostics,
+    ];
+
     /// The refusal for asking more of this room than is lent.
     fn refusal(self) -> u32 {
         match self {
@@ -32,6 +41,20 @@ impl Room {
     }
 }
 
+/// How much of each room is lent, in the order of `Room::ALL`.
+pub fn amounts(lent: &Lent) -> [u32; 6] {
+    let [l, f, c, r] = lent.limits();
+    [l, f, c, r, lent.out, lent.diagnostics]
+}
+
+/// The same with another amount of one room, and tables that are just long enough.
+pub fn with_amount(lent: &Lent, room: Room, amount: u32) -> Lent {
+    let mut changed = amounts(lent);
+    changed[room as usize] = amount;
+    let [l, f, c, r, out, diagnostics] = changed;
+    Lent::exact([l, f, c, r], out, diagnostics)
+}
+
 /// One amount for each kind of room.
 #[derive(Clone, Copy)]
 pub struct Amounts([u64; 6]);
@@ -41,15 +64,7 @@ impl Amounts {
     const NOTHING: Amounts = Amounts([0; 6]);
 
     pub fn lent(lent: &Lent) -> Amounts {
-        let lent = [
-            lent.max_locals,
-            lent.max_frames,
-            lent.max_captures,
-            lent.max_references,
-            lent.out,
-            lent.diagnostics,
-        ];
-        Amounts(lent.map(u64::from))
+        Amounts(amounts(lent).map(u64::from))
     }
 
     pub fn limits(&self) -> [u32; 4] {

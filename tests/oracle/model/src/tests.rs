@@ -2,8 +2,8 @@
 
 use crate::cases::{CASES, PLACES};
 use crate::{Fault, analyze, analyze_with, first_walk, needed};
-use packed::text::parse as records;
-use packed::{Answer, Lent};
+use wire::text::parse as records;
+use wire::{Answer, Lent};
 
 fn ample() -> Lent {
     Lent::exact([70_000, 1_000, 140_000, 1_000], 4_000_000, 10_000)
@@ -55,13 +55,13 @@ fn case_1_has_38_bytes_and_writes_54() {
     );
 }
 
-fn many_binds(owner: &str, count: u32, behind: &str) -> Vec<u8> {
+fn many_binds(owner: &str, count: u32, after: &str) -> Vec<u8> {
     let mut tree = records(owner);
     for name in 0..count {
-        packed::put(&mut tree, b"BV", &[name, 0]);
-        packed::put(&mut tree, b"TV", &[0]);
+        wire::put(&mut tree, b"BV", &[name, 0]);
+        wire::put(&mut tree, b"TV", &[0]);
     }
-    tree.extend(records(behind));
+    tree.extend(records(after));
     tree
 }
 
@@ -97,10 +97,10 @@ fn many_captures(items: u32, last: &str) -> Vec<u8> {
     tree.extend(records(
         "LO 3, BV 1 0, TV 3, BV 2 0, TV 3, BV 5 0, TV 3, FN 0 0",
     ));
-    packed::put(&mut tree, b"AP", &[items, 0, 0, 0]);
+    wire::put(&mut tree, b"AP", &[items, 0, 0, 0]);
     tree.extend(records("TV 3"));
     for name in 100..100 + 65_535 {
-        packed::put(&mut tree, b"VA", &[name, 0]);
+        wire::put(&mut tree, b"VA", &[name, 0]);
     }
     tree.extend(records(last));
     tree

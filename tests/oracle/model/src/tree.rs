@@ -43,7 +43,7 @@ pub enum Kind {
 }
 
 pub struct Part {
-    /// The `NA` or `PT` of this part, which stands behind it in the output.
+    /// The `NA` or `PT` of this part, which stands after it in the output.
     pub label: Option<Label>,
     pub value: Expression,
 }

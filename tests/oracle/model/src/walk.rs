@@ -96,7 +96,7 @@ impl Walk<'_> {
             return refuse(11, start.at);
         }
         let names = (0..count as usize)
-            .map(|i| packed::number(self.tree, self.at + 4 * i))
+            .map(|i| wire::number(self.tree, self.at + 4 * i))
             .collect();
         self.at += bytes as usize;
         Ok(names)
@@ -121,7 +121,7 @@ impl Walk<'_> {
             fields: [0; MOST_FIELDS],
         };
         for (i, field) in record.fields[..count].iter_mut().enumerate() {
-            *field = packed::number(self.tree, at + 2 + 4 * i);
+            *field = wire::number(self.tree, at + 2 + 4 * i);
         }
         if !self.in_range(&record) {
             return refuse(3, at);
@@ -245,7 +245,7 @@ impl Walk<'_> {
         if items.clone().any(|item| &item[..2] != b"TV") {
             return None;
         }
-        let constants = items.map(|item| packed::number(item, 2)).collect();
+        let constants = items.map(|item| wire::number(item, 2)).collect();
         self.at = end;
         Some(constants)
     }

@@ -102,7 +102,7 @@ impl Analysis {
         let first = self.top().first;
         let is_body = |id: usize| {
             let mut slot = Vec::new();
-            packed::put(&mut slot, b"LS", &[(id - first) as u32]);
+            wire::put(&mut slot, b"LS", &[(id - first) as u32]);
             self.out[body..] == slot
         };
         (kept.len() == 1 || any_number)
