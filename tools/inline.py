@@ -8,19 +8,20 @@ its callees promise is named once (`called`). Files of another form are left as 
 already.
 """
 
+import argparse
 import re
-import sys
 from dataclasses import dataclass
 from pathlib import Path
 
 SPEC = re.compile(r'(?:tie|[^\s()]+-lts)\.spec(?=\s)')
 NEED = re.compile(r'(?:tie|[^\s()]+-lts)\.Need-')
 TUPLE = re.compile(r'\(\n(?:  [^\n]*,\n)+\)')
+COMMENT = re.compile(r'(?<!\S)--.*')
 
 
 @dataclass
 class Answer:
-    """What answers a need: the names that it binds, and the text behind its `=`."""
+    """What answers a need: the names that it binds, and the text after its `=`."""
 
     binds: list
     text: str
@@ -50,19 +51,27 @@ def answer_in(block):
     return (name, Answer(found.group(1).split(), found.group(2).rstrip())) if found else None
 
 
+def signs_of(text):
+    """Each sign of a text with its place, a comment up to its line's end as one sign."""
+    place = 0
+    while place < len(text):
+        comment = COMMENT.match(text, place)
+        sign = comment.group() if comment else text[place]
+        yield place, sign
+        place += len(sign)
+
+
 def words_of(text):
-    """The arguments of a call: words, and what stands in parentheses."""
+    """The arguments of a call: words, and what stands in parentheses; a comment goes with the argument before it."""
     words, depth, start = [], 0, None
-    for place, letter in enumerate(text):
-        if letter in '({':
-            depth += 1
-        if letter in ')}':
-            depth -= 1
-        if start is None and not letter.isspace():
+    for place, sign in signs_of(text + ' '):
+        depth += (sign in '({') - (sign in ')}')
+        if start is None and sign.startswith('--'):
+            words[-1] += '  ' + sign
+        elif start is None and not sign.isspace():
             start = place
-        if start is not None and depth == 0 and (letter.isspace() or place + 1 == len(text)):
-            end = place if letter.isspace() else place + 1
-            words.append(text[start:end])
+        elif start is not None and depth == 0 and sign.isspace():
+            words.append(text[start:place])
             start = None
     return words
 
@@ -74,8 +83,8 @@ def lambda_for(name, answer, member):
     head = 'λ ' + ' '.join(binds) + '.' if binds else ''
     if '\n' in answer.text:
         body = '\n'.join('    ' + line.strip() for line in answer.text.strip('\n').split('\n'))
-        return f'({head} -- {name}\n{body})' if head else f'( -- {name}\n{body})'
-    return f'({head} {answer.text}) -- {name}' if head else f'({answer.text}) -- {name}'
+        return f'({head}  -- {name}\n{body})'
+    return f'({head} {answer.text})  -- {name}' if head else f'({answer.text})  -- {name}'
 
 
 def argument_text(word, answers, used, member):
@@ -91,13 +100,10 @@ def argument_text(word, answers, used, member):
 def end_of_call(text):
     """Where the call that starts at the front of the text ends: at the parenthesis that closes around it, or with the text."""
     depth = 0
-    for place, letter in enumerate(text):
-        if letter in '({':
-            depth += 1
-        if letter in ')}':
-            if depth == 0:
-                return place
-            depth -= 1
+    for place, sign in signs_of(text):
+        depth += (sign in '({') - (sign in ')}')
+        if depth < 0:
+            return place
     return len(text)
 
 
@@ -107,10 +113,10 @@ def joined(words):
 
 
 def name_called(text):
-    """What the callees of a cycle's member promise, named once: the text with the name in the tuple's place, and its declaration."""
+    """What the callees of a cycle's member promise, named once: the text with the name in the tuple's place, its declaration."""
     tuples = set(TUPLE.findall(text))
     member = re.search(r'^pub (\S+)-met :', text, re.M)
-    if len(tuples) != 1 or not member:
+    if len(tuples) != 1 or not member or re.search(r'^abbrev called :', text, re.M):
         return text, None
     whole = tuples.pop()
     parts = [line.strip().rstrip(',') for line in whole.strip('()\n').split('\n')]
@@ -122,7 +128,8 @@ def name_called(text):
             line = '    '
         line += word + ' '
     lines.append(line.rstrip())
-    declaration = (f'-- what the members and functions that it calls ask and promise\nabbrev called : (t : ℕ) → {member.group(1)}-lts.Claims\n'
+    declaration = ('-- what the members and functions that it calls ask and promise\n'
+                   f'abbrev called : (t : ℕ) → {member.group(1)}-lts.Claims\n'
                    'called t =\n' + '\n'.join(lines))
     return text.replace(whole, '(called t)'), declaration
 
@@ -135,35 +142,44 @@ def inlined(text):
     blocks = blocks_of(text)
     answers = dict(found for found in map(answer_in, blocks) if found)
     kept = [block for block in blocks if not answer_in(block)]
-    used, out = set(), []
-    for block in kept:
-        found = SPEC.search(block)
-        if found:
-            rest = block[found.end():]
-            end = end_of_call(rest)
-            member = found.group(0).removesuffix('-lts.spec')
-            words = [argument_text(word, answers, used, member) for word in words_of(rest[:end])]
-            tail = rest[end:]
-            block = block[:found.end()] + joined(words) + ('\n    ' if tail.strip() and ' -- ' in words[-1].split('\n')[-1] else '') + tail.lstrip()
-        out.append(block)
+    used = set()
+    out = [with_answers(block, answers, used) for block in kept]
     left = sorted(set(answers) - used)
     if left:
         raise ValueError('`spec` asks for none of: ' + ', '.join(left))
     if called:
-        at = next(place for place, block in enumerate(out) if not all(line.startswith(('--', 'use ', 'mod ')) for line in block.split('\n')))
-        out.insert(at, called)
+        out.insert(next(place for place, block in enumerate(out) if not is_heading(block)), called)
     return '\n\n'.join(out) + '\n'
 
 
+def with_answers(block, answers, used):
+    """A block with the answers put into the call of `spec`, if it has one; their names are noted as used."""
+    found = SPEC.search(block)
+    if not found:
+        return block
+    rest = block[found.end():]
+    end = end_of_call(rest)
+    member = found.group(0).removesuffix('-lts.spec')
+    words = [argument_text(word, answers, used, member) for word in words_of(rest[:end])]
+    tail = rest[end:].lstrip()
+    ends_in_comment = ' -- ' in words[-1].split('\n')[-1]
+    return block[:found.end()] + joined(words) + ('\n    ' if tail and ends_in_comment else '') + tail
+
+
+def is_heading(block):
+    """Does the block declare nothing, but say what the module is and uses?"""
+    return all(line.startswith(('--', 'use ', 'mod ')) for line in block.split('\n'))
+
+
 def main():
-    if len(sys.argv) < 2 or sys.argv[1] in ('-h', '--help'):
-        print(__doc__.strip())
-        return
-    for path in map(Path, sys.argv[1:]):
+    parser = argparse.ArgumentParser(description=__doc__, formatter_class=argparse.RawDescriptionHelpFormatter)
+    parser.add_argument('files', nargs='+', type=Path, metavar='FILE')
+    for path in parser.parse_args().files:
         before = path.read_text()
         after = inlined(before)
         if after != before:
             path.write_text(after)
+            print(f'shortened {path}')
 
 
 if __name__ == '__main__':

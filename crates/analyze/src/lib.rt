@@ -2,11 +2,12 @@
 ghost use mathlib.Core.Path.{_≡_};
 ghost use Rattle.rules.specs.Call.{call};
 ghost use Rattle.rules.specs.Numbers.{bit};
-ghost use Rattle.state.specs.Seen.{buffers};
+ghost use Rattle.state.specs.Seen.{held, before, after, was, is};
 ghost use Rattle.call_root.specs.Answers.{lent, left};
 ghost use Rattle.call_enter.specs.Answers.{Rooted};
 ghost use Rattle.analyze.specs.Answers.{Ran, Told, limits-from};
 use bytes_read::number_at;
+use bytes_records::offsets;
 use call_enter::enter;
 use call_root::AnalysisReport;
 use call_root::accepted;
@@ -19,10 +20,10 @@ use state::Naming;
 use state::Step;
 use state::Walked;
 use step_frame::close_frame;
-use tree::Walk;
+use tree::FirstWalk;
 
 // A tree that the first walk accepted: its externals and the root's frame, its expression, the root's shape.
-fn analyze_root(
+fn walk_root(
     tree: &[u8],
     out: &mut [u8],
     diagnostics: &mut [u8],
@@ -32,10 +33,11 @@ fn analyze_root(
     references: &mut [u32],
     limits: Limits,
 ) -> Step
-    requires { ⌜ Rooted (now tree) (buffers (now out) (now diagnostics) (now locals) (now frames) (now captures) (now references)) limits ⌝ }
-    ensures { λ r. ⌜ Ran r (now (tree .entry)) (buffers (now (out .entry)) (now (diagnostics .entry)) (now (locals .entry)) (now (frames .entry)) (now (captures .entry)) (now (references .entry))) (buffers (now (out .exit)) (now (diagnostics .exit)) (now (locals .exit)) (now (frames .exit)) (now (captures .exit)) (now (references .exit))) limits ⌝ }
+    requires { ⌜ Rooted (now tree) (held out diagnostics locals frames captures references) limits ⌝ }
+    ensures { λ r. ⌜ Ran r (was tree) (before out diagnostics locals frames captures references)
+        (after out diagnostics locals frames captures references) limits ⌝ }
 {
-    let n = number_at(tree, 2);
+    let n = number_at(tree, offsets::TREE_COUNT);
     let begun = begin_root(tree, locals, frames, limits, n);
     let Step::Ok(st) = begun else {
         return begun;
@@ -73,11 +75,12 @@ fn run(
     references: &mut [u32],
     limits: Limits,
 ) -> Step
-    ensures { λ r. ⌜ Ran r (now (tree .entry)) (buffers (now (out .entry)) (now (diagnostics .entry)) (now (locals .entry)) (now (frames .entry)) (now (captures .entry)) (now (references .entry))) (buffers (now (out .exit)) (now (diagnostics .exit)) (now (locals .exit)) (now (frames .exit)) (now (captures .exit)) (now (references .exit))) limits ⌝ }
+    ensures { λ r. ⌜ Ran r (was tree) (before out diagnostics locals frames captures references)
+        (after out diagnostics locals frames captures references) limits ⌝ }
 {
     let entered = enter(tree, locals, frames, captures, references, limits);
     match entered {
-        Walk::Past(_) => analyze_root(
+        FirstWalk::Past(_) => walk_root(
             tree,
             out,
             diagnostics,
@@ -87,12 +90,12 @@ fn run(
             references,
             limits,
         ),
-        Walk::Refused(number, place) => Step::Refused(number, place),
+        FirstWalk::Refused(number, place) => Step::Refused(number, place),
     }
 }
 
 // The call. Whatever is lent, the report and all six buffers are those of the rules' call.
-pub fn analyze(
+pub fn analyze_root(
     tree: &[u8],
     out: &mut [u8],
     diagnostics: &mut [u8],
@@ -102,7 +105,8 @@ pub fn analyze(
     references: &mut [u32],
     limits: Limits,
 ) -> AnalysisReport
-    ensures { λ r. ⌜ left r (buffers (now (out .exit)) (now (diagnostics .exit)) (now (locals .exit)) (now (frames .exit)) (now (captures .exit)) (now (references .exit))) ≡ call (lent (now (tree .entry)) (buffers (now (out .entry)) (now (diagnostics .entry)) (now (locals .entry)) (now (frames .entry)) (now (captures .entry)) (now (references .entry))) limits) ⌝ }
+    ensures { λ r. ⌜ left r (after out diagnostics locals frames captures references) ≡ call
+        (lent (was tree) (before out diagnostics locals frames captures references) limits) ⌝ }
 {
     let r = run(
         tree,
@@ -142,7 +146,7 @@ fn errored_number(errored: bool) -> u64
     if errored { 1 } else { 0 }
 }
 
-// The call for C: the report's nine numbers, and the buffers as `analyze` leaves them.
+// The call for C: the report's nine numbers, and the buffers as `analyze_root` leaves them.
 #[no_mangle]
 pub extern "C" fn tsilmogar_analyze(
     tree: &[u8],
@@ -158,7 +162,9 @@ pub extern "C" fn tsilmogar_analyze(
     max_references: u32,
     report: &mut [u64; 9],
 )
-    ensures { λ _. ⌜ Told (now (report .exit)) (buffers (now (out .exit)) (now (diagnostics .exit)) (now (locals .exit)) (now (frames .exit)) (now (captures .exit)) (now (references .exit))) (call (lent (now (tree .entry)) (buffers (now (out .entry)) (now (diagnostics .entry)) (now (locals .entry)) (now (frames .entry)) (now (captures .entry)) (now (references .entry))) (limits-from «max_locals» «max_frames» «max_captures» «max_references»))) ⌝ }
+    ensures { λ _. ⌜ Told (is report) (after out diagnostics locals frames captures references) (call (lent (was tree)
+        (before out diagnostics locals frames captures references)
+        (limits-from «max_locals» «max_frames» «max_captures» «max_references»))) ⌝ }
 {
     let limits = Limits {
         max_locals: max_locals,
@@ -166,7 +172,7 @@ pub extern "C" fn tsilmogar_analyze(
         max_captures: max_captures,
         max_references: max_references,
     };
-    let r = analyze(
+    let r = analyze_root(
         tree,
         out,
         diagnostics,

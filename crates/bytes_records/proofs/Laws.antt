@@ -11,9 +11,9 @@ use lib.Seq.{getD-drop, take-all}
 use lib.Dec.{eqb, leb}
 use borrow.Author.Tests.{eqb-true, le-leb, lt-leb, leb-true, leb-false, not-true, not-false}
 use Rattle.rules.specs.Outcome.{choose}
-use Rattle.rules.specs.Numbers.{Mark, JT, ID, TV, VA, AR, OX, UN, BI, AS, LO, ER, IM, AP, IX, FN, IF, SC, OB, BV, BF, PA, AT, FH, NA, PT, LS, CS, SU, BL, AC, IY, FV, SH, DG}
-use Rattle.rules.specs.Numbers.{code, number-at, numbers-at, bit, is-set}
+use Rattle.rules.specs.Numbers.{Mark, JT, ID, TV, VA, AR, OX, UN, BI, AS, LO, ER, IM, AP, IX, FN, IF, SC, OB, BV, BF, PA, AT, FH, NA, PT, LS, CS, SU, BL, AC, IY, FV, SH, DG, code, number-at, numbers-at, bit, is-set}
 use Rattle.rules.specs.Records.{size-of}
+use Rattle.rules.proofs.Flags.{set-of}
 use Rattle.bytes_records.specs.Marks.{marks, find-mark, mark-of}
 use Rattle.rules.proofs.After.{chosen}
 
@@ -100,13 +100,8 @@ leb-minus a n l h = by (decLe a (l - n))
     by (yes le) = le-leb a (l - n) le ∙ sym (le-leb (a + n) l (omega arith))
     by (no gt) = lt-leb a (l - n) (omega arith) ∙ sym (lt-leb (a + n) l (omega arith))
 
-pub is-set-nonzero : (n : ℕ) → (n ≡ 0 → ⊥) → is-set n ≡ true
-unfolding is-set
-is-set-nonzero zero h = absurd (h refl)
-is-set-nonzero (suc n) h = refl
-
 pub flag-set : (n : ℕ) → (n ≡ 0 → ⊥) → (1 ≡ bit (is-set n)) × (1 ≤ 1)
-flag-set n h = (ap bit (sym (is-set-nonzero n h)), omega arith)
+flag-set n h = (ap bit (sym (set-of h)), omega arith)
 
 -- what `has_room` answered
 pub room-there : (a n l : ℕ) (r : Bool) → r ≡ leb (a + n) l → not r ≡ false → a + n ≤ l

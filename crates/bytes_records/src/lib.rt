@@ -11,6 +11,8 @@ ghost use Rattle.bytes_records.specs.Constants.{is-some};
 use bytes_read::mark_at;
 use bytes_read::number_at;
 
+pub mod offsets;
+
 // Marks as numbers: the first letter times 256, and the second.
 pub const JT: u32 = 0x4a54;
 
@@ -63,7 +65,7 @@ pub const NA: u32 = 0x4e41;
 pub const PT: u32 = 0x5054;
 
 // A number of a record as a count.
-fn wide(n: u32) -> usize
+pub fn wide(n: u32) -> usize
     ensures { λ r. ⌜ (r ≡ n) × (r < 4294967296) ⌝ }
 {
     n as usize
@@ -132,26 +134,28 @@ pub fn children(bytes: &[u8], mark: u32) -> usize
     ensures { λ r. ⌜ r ≡ children (mark-of mark) (numbers-at (now (bytes .entry)) (numbers-of (mark-of mark)) 2) ⌝ }
 {
     match mark {
-        AR => wide(number_at(bytes, 2)),
+        AR => wide(number_at(bytes, offsets::AR_COUNT)),
         OX => 2,
         UN => 1,
         BI => 2,
-        AS => 2 + wide(number_at(bytes, 2)),
-        LO => 1 + wide(number_at(bytes, 2)),
+        AS => 2 + wide(number_at(bytes, offsets::AS_MESSAGE)),
+        LO => 1 + wide(number_at(bytes, offsets::LO_COUNT)),
         ER => 1,
-        AP => 1 + wide(number_at(bytes, 2)) + wide(number_at(bytes, 6)),
-        IX => 1 + wide(number_at(bytes, 2)),
-        FN => 1 + wide(number_at(bytes, 6)),
-        IF => 2 + wide(number_at(bytes, 2)),
-        SC => 1 + members(number_at(bytes, 2)),
-        OB => 2 * wide(number_at(bytes, 10))
-            + wide(number_at(bytes, 2))
-            + wide(number_at(bytes, 6)),
+        AP => 1
+            + wide(number_at(bytes, offsets::AP_VALUES))
+            + wide(number_at(bytes, offsets::AP_NAMED)),
+        IX => 1 + wide(number_at(bytes, offsets::IX_COUNT)),
+        FN => 1 + wide(number_at(bytes, offsets::FN_COUNT)),
+        IF => 2 + wide(number_at(bytes, offsets::IF_ELSE)),
+        SC => 1 + members(number_at(bytes, offsets::SC_SET)),
+        OB => 2 * wide(number_at(bytes, offsets::OB_FIELDS))
+            + wide(number_at(bytes, offsets::OB_BINDS))
+            + wide(number_at(bytes, offsets::OB_ASSERTIONS)),
         BV => 1,
         BF => 1,
-        PA => flag(number_at(bytes, 10)),
-        AT => 1 + wide(number_at(bytes, 2)),
-        FH => flag(number_at(bytes, 2)),
+        PA => flag(number_at(bytes, offsets::PA_DEFAULT)),
+        AT => 1 + wide(number_at(bytes, offsets::AT_MESSAGE)),
+        FH => flag(number_at(bytes, offsets::FH_KIND)),
         NA => 1,
         PT => 1,
         _ => 0,
@@ -162,13 +166,13 @@ pub fn children(bytes: &[u8], mark: u32) -> usize
 fn constant(tree: &[u8], at: usize) -> bool
     ensures { λ r. ⌜ r ≡ constant-at (now (tree .entry)) at ⌝ }
 {
-    if !has_room(tree, at, 6) {
+    if !has_room(tree, at, offsets::TV_SIZE) {
         return false;
     }
     mark_at(tree, at) == TV
 }
 
-// Whether n whole constants stand one behind the other; looks no further than the first record that is none.
+// Whether n whole constants stand one after the other; looks no further than the first record that is none.
 pub fn constants(tree: &[u8], at: usize, n: usize) -> bool
     ensures { λ r. ⌜ r ≡ is-some (constants-at (now (tree .entry)) n at) ⌝ }
 {

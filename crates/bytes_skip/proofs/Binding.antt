@@ -1,28 +1,13 @@
--- Laws of answers one after another, and of the place behind them. Assumes nothing.
+-- Laws of the place after answers one after another. Assumes nothing.
 use Prim.Native.Nat.{ℕ, zero, suc}
-use native.Mathlib.Omega.{arith}
 use mathlib.Core.Path.{_≡_, refl, sym, ap, _∙_}
 use Rattle.rules.specs.Outcome.{Outcome, ok, refuse, _>>=_}
 use Rattle.rules.specs.FirstWalk.{many, none-left}
 use Rattle.rules.proofs.After.{After, fine, refused}
+use Rattle.rules.proofs.Outcomes.{same-ok, no-answer, bind-unit, bind-ext, bind-assoc}
 use Rattle.bytes_skip.specs.Places.{past, over}
 
-pub bind-right : (x : Outcome ℕ) → (x >>= λ q. ok q) ≡ x
-unfolding _>>=_
-bind-right (ok q) = refl
-bind-right (refuse number place) = refl
-
-pub bind-ext : {A B : Type 0} (x : Outcome A) (f g : A → Outcome B) → ((a : A) → f a ≡ g a) → (x >>= f) ≡ (x >>= g)
-unfolding _>>=_
-bind-ext (ok a) f g h = h a
-bind-ext (refuse number place) f g h = refl
-
-pub bind-assoc : {A B C : Type 0} (x : Outcome A) (f : A → Outcome B) (g : B → Outcome C) → ((x >>= f) >>= g) ≡ (x >>= λ a. f a >>= g)
-unfolding _>>=_
-bind-assoc (ok a) f g = refl
-bind-assoc (refuse number place) f g = refl
-
--- the place behind what is read in two steps, of which the second goes on from the first one's place
+-- the place after what is read in two steps, of which the second goes on from the first one's place
 pub past-after : {A B : Type 0} {P : A × ℕ → Type 0} {x : Outcome (A × ℕ)} (k : A × ℕ → Outcome (B × ℕ)) (g : ℕ → Outcome ℕ)
     → After P x → ((a : A × ℕ) → P a → past (k a) ≡ g (a .1)) → past (x >>= k) ≡ (past x >>= g)
 unfolding past _>>=_
@@ -40,14 +25,14 @@ unfolding past _>>=_
 past-put (ok a) put = refl
 past-put (refuse number place) put = refl
 
--- the place behind a record and what is read below it
+-- the place after a record and what is read below it
 pub past-read : {A B : Type 0} (x : Outcome ℕ) (r : ℕ → A) (k : A → Outcome (B × ℕ)) (g : ℕ → Outcome ℕ) → ((q : ℕ) → past (k (r q)) ≡ g q)
     → past ((x >>= λ q. ok (r q)) >>= k) ≡ (x >>= g)
 unfolding past _>>=_
 past-read (ok q) r k g h = h q
 past-read (refuse number place) r k g h = refl
 
--- the place behind many items and the rest
+-- the place after many items and the rest
 pub past-many : {A : Type 0} (item : ℕ → Outcome ((A → A) × ℕ)) (rest : ℕ → Outcome (A × ℕ)) (f : ℕ → Outcome ℕ) → ((p : ℕ) → past (item p) ≡ f p)
     → (n p : ℕ) → past (many item rest n p) ≡ (over n f p >>= λ q. past (rest q))
 unfolding many over _>>=_ past
@@ -61,28 +46,11 @@ past-many item rest f h (suc n) p =
 pub past-list : {A : Type 0} (item : ℕ → Outcome ((A → A) × ℕ)) (nil : A) (f : ℕ → Outcome ℕ) → ((p : ℕ) → past (item p) ≡ f p)
     → (n p : ℕ) → past (many item (none-left nil) n p) ≡ over n f p
 unfolding none-left past
-past-list item nil f h n p = past-many item (none-left nil) f h n p ∙ bind-right (over n f p)
+past-list item nil f h n p = past-many item (none-left nil) f h n p ∙ bind-unit (over n f p)
 
 pub over-one : (f : ℕ → Outcome ℕ) (p : ℕ) → over 1 f p ≡ f p
 unfolding over
-over-one f p = bind-right (f p)
-
-pub same-ok : {A : Type 0} {a b : A} → ok a ≡ ok b → a ≡ b
-same-ok e = cc
-
-no-answer : {A : Type 0} {number place : ℕ} {a : A} → _≡_ {A = Outcome A} (refuse number place) (ok a) → ⊥
-no-answer e = let z : _≡_ {A = ℕ} 0 1 = cc in omega arith
-
--- two steps that end somewhere each end somewhere
-pub record Both {A : Type 0} (x : Outcome ℕ) (f : ℕ → Outcome A) (a : A) : Type 0 where
-  pub middle : ℕ
-  pub first : x ≡ ok middle
-  pub second : f middle ≡ ok a
-
-pub bind-ok : {A : Type 0} (x : Outcome ℕ) (f : ℕ → Outcome A) {a : A} → (x >>= f) ≡ ok a → Both x f a
-unfolding _>>=_
-bind-ok (ok q) f h = record { middle = q; first = refl; second = h }
-bind-ok (refuse number place) f h = absurd (no-answer h)
+over-one f p = bind-unit (f p)
 
 pub record Was-read {A : Type 0} (x : Outcome (A × ℕ)) (q : ℕ) : Type 0 where
   pub what : A

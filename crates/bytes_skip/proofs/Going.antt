@@ -20,11 +20,11 @@ unfolding size-at
 size-at-least s p = size-least (mark-at s p)
 
 -- each record has two bytes at least, and all of them are there
-goes-far : {s : List ℕ} {q w p : ℕ} → Goes s q w p → p + 2 * w ≤ q
+pub goes-far : {s : List ℕ} {q w p : ℕ} → Goes s q w p → p + 2 * w ≤ q
 goes-far (arrived w p e f) = omega arith
 goes-far {s} (onward w p v e h g) = omega (arith, size-at-least s p, goes-far g)
 
-goes-within : {s : List ℕ} {q w p : ℕ} → Goes s q w p → p ≤ length s → q ≤ length s
+pub goes-within : {s : List ℕ} {q w p : ℕ} → Goes s q w p → p ≤ length s → q ≤ length s
 goes-within (arrived w p e f) le = omega arith
 goes-within (onward w p v e h g) le = goes-within g h
 

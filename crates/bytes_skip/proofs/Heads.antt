@@ -9,11 +9,12 @@ use Rattle.rules.specs.Numbers.{code, number-at, numbers-at, is-set, bit}
 use Rattle.rules.specs.Records.{size-of, numbers-of, fields, widths, width}
 use Rattle.rules.specs.FirstWalk.{any-expression, expr-at}
 use Rattle.rules.proofs.After.{After, fine, after-ok, after-need}
+use Rattle.rules.proofs.Outcomes.{same-ok, bind-got}
 use Rattle.bytes_records.specs.Marks.{mark-of, find-mark, marks, children}
 use Rattle.bytes_records.proofs.Laws.{flag-set}
 use Rattle.bytes_skip.specs.Places.{Within, judged-at, over, expected-at, expr-past, exprs-past, below-past, held-past}
 use Rattle.bytes_skip.specs.Behind.{Skipped}
-use Rattle.bytes_skip.proofs.Binding.{over-one, same-ok, bind-ok, past-ok}
+use Rattle.bytes_skip.proofs.Binding.{over-one, past-ok}
 
 module _ (s : List ℕ) where
   pub judged-within : (c p : ℕ) → After (λ q. Within s c p q) (judged-at s (mark-of c) p)
@@ -25,11 +26,11 @@ module _ (s : List ℕ) where
   expected-within c p = after-need _ 1 p _ λ _. after-need _ 2 p _ λ _. judged-within c p
 
   module _ (nest p : ℕ) {q : ℕ} (h : held-past s nest 0x4648 p ≡ ok q) where
-    -- what stands below it begins 26 bytes behind it
+    -- what stands below it begins 26 bytes after it
     below-head : (p + 26 ≤ length s) × (exprs-past s nest (bit (is-set (number-at s (p + 2)))) (p + 26) ≡ ok q)
     unfolding held-past below-past mark-of find-mark marks choose code size-of numbers-of widths width fields children numbers-at
     below-head =
-        let b = bind-ok (expected-at s 0x4648 p) (below-past s nest 0x4648 p) h in
+        let b = bind-got (expected-at s 0x4648 p) (below-past s nest 0x4648 p) h in
         let w = after-ok (expected-within 0x4648 p) (b .first) in
         let e : b .middle ≡ p + 26 = w .size in
         (rw e at (w .fits), (rw e at (b .second)))

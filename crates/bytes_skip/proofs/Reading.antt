@@ -11,13 +11,13 @@ use lib.Dec.{leb, eqb}
 use borrow.Author.Tests.{leb-true, eqb-true}
 use Rattle.rules.specs.Outcome.{Outcome, ok, choose}
 use Rattle.rules.specs.Numbers.{Mark, TV, FH, PA, NA, PT, AT, code, code-at, numbers-at, number-at, is-set, bit}
-use Rattle.rules.specs.Records.{size-of, numbers-of, fields, widths, width}
+use Rattle.rules.specs.Records.{size-of, numbers-of, fields, all-in-range, widths, width}
 use Rattle.rules.specs.Tree.{Expr, Heads, no-exprs, no-binds, no-params, no-heads}
-use Rattle.rules.specs.FirstWalk.{Allowed, any-expression, function-only, object-only, Child, level, holder, Groups, Form, rows, bind-rows, only, row-of, Read, nth, allowed, front, many, none-left, record-at, constant-at, constants-at}
-use Rattle.rules.specs.FirstWalk.{expr-item, holder-at, child-at, groups-at, bind-item, param-item, head-item, below, expr-at, value-groups, expressions, argument, index-part, assertion, members}
-use Rattle.rules.specs.FirstWalk.{an-identity, a-constant, a-variable, an-array, an-import, a-local, a-function, an-object, parts}
+use Rattle.rules.specs.FirstWalk.{Allowed, any-expression, function-only, object-only, Child, level, holder, Groups, Form, rows, bind-rows, only, row-of, Read, nth, front, many, none-left, record-at, constant-at, constants-at, expr-item, holder-at, child-at, groups-at, bind-item, param-item, head-item, below, expr-at, value-groups, expressions, argument, index-part, assertion, members, an-identity, a-constant, a-variable, an-array, an-import, a-local, a-function, an-object, parts}
 use Rattle.bytes_records.specs.Marks.{mark-of, children, mark-at, size-at, children-at}
 use Rattle.rules.proofs.After.{After, fine, refused, after-ok, after-bind, after-need, after-choose, after-given, after-many, after-weaken, chosen, Held, there, nothing, held-some}
+use Rattle.rules.proofs.ReadRecords.{after-allowed}
+use Rattle.rules.proofs.Accepted.{total}
 use Rattle.bytes_records.proofs.Laws.{All, all-none, _also_, mark-code}
 use Rattle.bytes_skip.proofs.Going.{Goes, Steps, steps-none, steps-then, steps-record, steps-goes}
 
@@ -27,6 +27,7 @@ pub record Was {A : Type 0} (s : List ℕ) (table : List (Mark × A)) (p : ℕ) 
   pub row : row-of (code-at s p) table ≡ some (r .mark, r .row)
   pub mark : mark-at s p ≡ r .mark
   pub fits : p + size-of (r .mark) ≤ length s
+  pub judged : all-in-range (fields (r .mark)) (numbers-at s (numbers-of (r .mark)) (p + 2)) ≡ true
   pub numbers : r .numbers ≡ numbers-at s (numbers-of (r .mark)) (p + 2)
   pub next : r .next ≡ p + size-of (r .mark)
 
@@ -43,18 +44,13 @@ all-rows P (a ∷ l) h = h a also all-rows P l h
 pub row-code : {A : Type 0} (c : ℕ) (table : List (Mark × A)) {r : Mark × A} → row-of c table ≡ some r → c ≡ code (r .0)
 row-code {A = A} c table e = held-some (row-held (λ r. c ≡ code (r .0)) c table (all-rows (λ r. c ≡ code (r .0) → c ≡ code (r .0)) table (λ r h. h))) e
 
-allowed-row : {A : Type 0} (o : Option (Mark × A)) (p : ℕ) → After (λ r. o ≡ some r) (allowed o p)
-unfolding allowed
-allowed-row none p = refused
-allowed-row (some r) p = fine refl
-
 module _ (s : List ℕ) where
   pub record-was : {A : Type 0} (table : List (Mark × A)) (p : ℕ) → After (Was s table p) (record-at s table p)
   unfolding record-at mark-at
   record-was table p =
-      after-need _ 1 p _ λ _. after-bind _ (allowed-row (row-of (code-at s p) table) p) λ r e.
-      after-need _ 1 p _ λ h. after-need _ 3 p _ λ _.
-      fine (record { row = e; mark = ap mark-of (row-code (code-at s p) table e) ∙ mark-code (r .0); fits = leb-true _ _ h; numbers = refl; next = refl })
+      after-need _ 1 p _ λ _. after-bind _ (after-allowed (row-of (code-at s p) table) p) λ r e.
+      after-need _ 1 p _ λ h. after-need _ 3 p _ λ j.
+      fine (record { row = e; mark = ap mark-of (row-code (code-at s p) table e) ∙ mark-code (r .0); fits = leb-true _ _ h; judged = j; numbers = refl; next = refl })
 
   -- a record and so many below it
   module _ {A : Type 0} {table : List (Mark × A)} {p : ℕ} {r : Read A} (was : Was s table p r) where
@@ -71,10 +67,6 @@ module _ (s : List ℕ) where
         steps-record s p q (rw size-was (was .fits)) (rw (children-was, e, size-was, ← was .next) below)
 
 -- How many records a form has below its own
-
-unfoldable total : Groups → ℕ
-total [] = 0
-total (g ∷ gs) = g .0 + total gs
 
 unfoldable below-form : Form → List ℕ → ℕ
 below-form an-identity ns = 0
@@ -132,7 +124,7 @@ object-parts : (l a f : ℕ) → 2 * f + l + a ≡ f + (l + (a + f))
 object-parts l a f = omega arith
 
 rows-fit : (a : Allowed) → unfold rows in All Fit (rows a)
-unfolding rows children below-form total expressions argument index-part members
+unfolding rows children below-form expressions argument index-part members
 rows-fit any-expression =
     ((λ ns. refl), tt)
     also ((λ ns. refl), tt)
@@ -180,7 +172,7 @@ unfolding children
 asserted-fit n = holders-fit n AT (λ ns. 1 + getD ns 0 0) (λ ms. refl)
 
 total-levels : (n : ℕ) → total (expressions n) ≡ n
-unfolding total expressions
+unfolding expressions
 total-levels n = add-zero n
 
 -- Constants
@@ -274,7 +266,7 @@ module _ (s : List ℕ) where
     child-one (holder m n) fits p = holder-one m n fits p
 
     groups-steps : (gs : Groups) → groups-fit gs → (p : ℕ) → After (λ a. Steps s (total gs) p (a .1)) (groups-at s sub gs p)
-    unfolding groups-at total none-left
+    unfolding groups-at none-left
     groups-steps [] fits p = fine (steps-none s p)
     groups-steps (g ∷ gs) (here also later) p =
         many-steps (total gs) (expr-item s sub (child-at s sub (g .1))) (groups-at s sub gs) (item-one (child-at s sub (g .1)) (child-one (g .1) here)) (groups-steps gs later) (g .0) p
@@ -299,7 +291,7 @@ module _ (s : List ℕ) where
 
     -- the heads, and as many values
     heads-steps : (n p : ℕ) → After (λ a. Headed n p (a .0) (a .1)) (many (head-item s sub) (none-left no-heads) n p)
-    unfolding head-item none-left nth value-groups total
+    unfolding head-item none-left nth value-groups
     heads-steps n p =
         after-many Headed (head-item s sub) (none-left no-heads)
         (λ p. after-bind _ (record-was s (only FH) p) λ r was.
@@ -318,7 +310,7 @@ module _ (s : List ℕ) where
             record { steps = rw k (steps-then s 1 n p q r a (b .steps)); values = ap total e ∙ ap (λ t. 1 + t) (b .values) ∙ sym k; fit = rw e (tt also b .fit) }
 
     below-one : (f : Form) {p : ℕ} {r : Read Form} (a : Allowed) → Was s (rows a) p r → Fit (r .mark, f) → After (One p) (below s sub f r p)
-    unfolding below below-form nth total expressions assertion
+    unfolding below below-form nth expressions assertion
     below-one an-identity {p} {r} a was fit = fine (record-steps s was 0 (r .next) (fit .0 (r .numbers)) (steps-none s (r .next)))
     below-one a-constant {p} {r} a was fit = fine (record-steps s was 0 (r .next) (fit .0 (r .numbers)) (steps-none s (r .next)))
     below-one a-variable {p} {r} a was fit = fine (record-steps s was 0 (r .next) (fit .0 (r .numbers)) (steps-none s (r .next)))

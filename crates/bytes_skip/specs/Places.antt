@@ -10,7 +10,7 @@ use Rattle.rules.specs.Records.{fields, numbers-of, size-of, all-in-range}
 use Rattle.rules.specs.FirstWalk.{Allowed, any-expression, expr-at}
 use Rattle.bytes_records.specs.Marks.{mark-of, children}
 
--- the place behind what was read
+-- the place after what was read
 unfoldable pub past : {A : Type 0} → Outcome (A × ℕ) → Outcome ℕ
 past (ok a) = ok (a .1)
 past (refuse number place) = refuse number place
@@ -22,13 +22,13 @@ over (suc n) step p = do
   q ← step p
   over n step q
 
--- the place behind a record that lies within the tree
+-- the place after a record that lies within the tree
 pub record Within (s : List ℕ) (mark p q : ℕ) : Type 0 where
   pub size : q ≡ p + size-of (mark-of mark)
   pub fits : q ≤ length s
 
 module _ (s : List ℕ) where
-  -- "fields missing (1), 3": the place behind a record with this mark
+  -- "fields missing (1), 3": the place after a record with this mark
   unfoldable pub judged-at : Mark → ℕ → Outcome ℕ
   judged-at m p = do
     _ ← need (leb (p + size-of m) (length s)) 1 p

@@ -6,9 +6,10 @@ use bytes_read::mark_at;
 use bytes_read::number_at;
 use bytes_records::children;
 use bytes_records::has_room;
+use bytes_records::offsets;
 use bytes_records::size_of;
 
-// The place behind one expression of an accepted tree. Each record takes itself off those still to come and adds those directly below it.
+// The place after one expression of an accepted tree. Each record takes itself off those still to come and adds those directly below it.
 pub fn skip(tree: &[u8], at: usize) -> usize
     ensures { λ r. ⌜ Skipped (now (tree .entry)) at r ⌝ }
 {
@@ -35,13 +36,13 @@ pub fn skip(tree: &[u8], at: usize) -> usize
     p
 }
 
-// The place behind a field's head whose name, if it is computed, was read before.
+// The place after a field's head whose name, if it is computed, was read before.
 pub fn after_head(tree: &[u8], at: usize) -> usize
     requires { ⌜ at + 26 ≤ length (now tree) ⌝ }
     ensures { λ r. ⌜ Behind (now (tree .entry)) at r ⌝ }
 {
-    if number_at(tree, at + 2) == 0 {
-        return at + 26;
+    if number_at(tree, at + offsets::FH_KIND) == 0 {
+        return at + offsets::FH_SIZE;
     }
-    skip(tree, at + 26)
+    skip(tree, at + offsets::FH_SIZE)
 }

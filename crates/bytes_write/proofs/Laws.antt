@@ -1,5 +1,5 @@
 -- Laws of runs of bytes written. Assumes nothing.
-use Prim.Native.Nat.{ℕ, zero, suc, _+_, _*_, _-_, _≤_, _<_}
+use Prim.Native.Nat.{ℕ, suc, _+_, _*_, _-_, _≤_, _<_}
 use mathlib.Core.List.{List, [], _∷_, _++_, append-nil, append-assoc}
 use mathlib.Core.Path.{_≡_, refl, sym, ap, _∙_}
 use native.Mathlib.Nat.{add-zero}
@@ -77,7 +77,7 @@ zeros-end l from i h end most =
 
 -- Records
 
--- a mark's two bytes and then the numbers' are put behind what was used
+-- a mark's two bytes and then the numbers' are put after what was used
 pub put-stored : (l : List ℕ) (used a b : ℕ) (ns : List ℕ) → used + length (a ∷ b ∷ numbers-bytes ns) ≤ length l
     → sets (set (set l used a) (used + 1) b) (used + 2) (numbers-bytes ns) ≡ put l used (a ∷ b ∷ numbers-bytes ns)
 unfolding put

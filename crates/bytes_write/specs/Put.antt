@@ -1,4 +1,4 @@
--- What putting a record behind the bytes that were used answers and leaves. Assumes nothing.
+-- What putting a record after the bytes that were used answers and leaves. Assumes nothing.
 use Prim.Native.Nat.{ℕ, _+_, _≤_, _<_}
 use mathlib.Core.List.{List, _++_}
 use mathlib.Core.Path.{_≡_}
@@ -6,7 +6,7 @@ use lib.ListN.{length, take, drop}
 use Rattle.bytes_write.specs.declared.Written.{Written}
 use Rattle.bytes_write.specs.declared.Written.the-variants.{To, NoRoom}
 
--- the buffer with these bytes behind those that were used
+-- the buffer with these bytes after those that were used
 unfoldable pub put : List ℕ → ℕ → List ℕ → List ℕ
 put out used bytes = take used out ++ bytes ++ drop (used + length bytes) out
 

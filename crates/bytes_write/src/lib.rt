@@ -1,4 +1,4 @@
-// The packed form written: records put behind what was written, runs set to zero.
+// The packed form written: records put after what was written, runs set to zero.
 ghost use mathlib.Core.Path.{_≡_};
 ghost use mathlib.Core.List.{_∷_, _++_};
 ghost use Prim.Native.Nat.{_+_, _*_, _-_, _≤_};
@@ -36,9 +36,10 @@ pub enum Written {
     NoRoom,
 }
 
-// A record behind the bytes that were used, or nothing where it has no room.
+// A record after the bytes that were used, or nothing where it has no room.
 pub fn put_record(out: &mut [u8], used: usize, mark: &[u8; 2], ns: &[u32]) -> Written
-    ensures { λ r. ⌜ Put r (now (out .entry)) (now (out .exit)) used (getD (now (mark .entry)) 0 0 ∷ getD (now (mark .entry)) 1 0 ∷ numbers-bytes (now (ns .entry))) ⌝ }
+    ensures { λ r. ⌜ Put r (now (out .entry)) (now (out .exit)) used
+        (getD (now (mark .entry)) 0 0 ∷ getD (now (mark .entry)) 1 0 ∷ numbers-bytes (now (ns .entry))) ⌝ }
 {
     if out.len() < used {
         return Written::NoRoom;

@@ -12,8 +12,8 @@ use Rattle.rules.specs.Call as rules
 use Rattle.state.specs.Seen.{Buffers}
 use Rattle.state.specs.declared.Limits.{Limits}
 use Rattle.tree.specs.Seen.{seen, ended}
-use Rattle.tree.specs.declared.Walk.{Walk}
-use Rattle.tree.specs.declared.Walk.the-variants as walk-as
+use Rattle.tree.specs.declared.FirstWalk.{FirstWalk}
+use Rattle.tree.specs.declared.FirstWalk.the-variants as walk-as
 use Rattle.call_root.specs.Answers.{lent}
 use Rattle.call_root.proofs.Whole.{tree-there, tree-refused}
 use Rattle.call_root.proofs.Entry.{entry-13, entry-14, entry-tree-refused}
@@ -54,16 +54,16 @@ module _ (s : List ℕ) (b : Buffers) (l : Limits) where
     enters-14 long = entry-14 s b l fit long
 
     -- the first walk's answer
-    pub enters : length s ≤ 16777216 → (r : Walk) → seen r ≡ ended (length s) (tree-at s) → Entered r s b l
+    pub enters : length s ≤ 16777216 → (r : FirstWalk) → seen r ≡ ended (length s) (tree-at s) → Entered r s b l
     unfolding Entered
     enters short (walk-as.Past at) e = let t = tree-there s e refl in record { tables-fit = fit; short = short; root = t .tree; there = t .there }
     enters short (walk-as.Refused number place) e = entry-tree-refused s b l fit short (tree-refused s e refl)
 
-  module _ {r : Walk} (entered : Entered r s b l) where
+  module _ {r : FirstWalk} (entered : Entered r s b l) where
     pub rooted : {at : ℕ} → r ≡ walk-as.Past at → Rooted s b l
     unfolding Entered
-    rooted e = subst (λ (r : Walk). Entered r s b l) e entered
+    rooted e = subst (λ (r : FirstWalk). Entered r s b l) e entered
 
     pub not-entered : {number place : ℕ} → r ≡ walk-as.Refused number place → rules.run (lent s b l) ≡ refuse number place
     unfolding Entered
-    not-entered e = subst (λ (r : Walk). Entered r s b l) e entered
+    not-entered e = subst (λ (r : FirstWalk). Entered r s b l) e entered

@@ -10,8 +10,8 @@ use Rattle.rules.specs.Outcome.{ok, refuse}
 use Rattle.rules.specs.Call as rules
 use Rattle.state.specs.Seen.{Buffers}
 use Rattle.state.specs.declared.Limits.{Limits}
-use Rattle.tree.specs.declared.Walk.{Walk}
-use Rattle.tree.specs.declared.Walk.the-variants as walk-as
+use Rattle.tree.specs.declared.FirstWalk.{FirstWalk}
+use Rattle.tree.specs.declared.FirstWalk.the-variants as walk-as
 use Rattle.call_root.specs.Answers.{lent}
 
 -- neither 13 nor 14, and the first walk accepts the tree
@@ -22,6 +22,6 @@ pub record Rooted (tree : List ℕ) (b : Buffers) (l : Limits) : Type 0 where
   pub there : tree-at tree ≡ ok root
 
 -- there is a tree to analyse, or the call is refused so
-unfoldable pub Entered : Walk → List ℕ → Buffers → Limits → Type 0
+unfoldable pub Entered : FirstWalk → List ℕ → Buffers → Limits → Type 0
 Entered (walk-as.Past at) tree b l = Rooted tree b l
 Entered (walk-as.Refused number place) tree b l = rules.run (lent tree b l) ≡ refuse number place

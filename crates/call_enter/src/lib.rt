@@ -5,10 +5,10 @@ ghost use mathlib.Core.Path.{_≡_};
 ghost use Prim.Native.Nat.{ℕ, _*_};
 ghost use lib.ListN.{length};
 ghost use lib.Dec.{leb};
-ghost use Rattle.state.specs.Seen.{buffers};
+ghost use Rattle.state.specs.Seen.{buffers, was};
 ghost use Rattle.call_enter.specs.Answers.{Entered};
 use state::Limits;
-use tree::Walk;
+use tree::FirstWalk;
 use tree::first_walk;
 
 // Whether each table has sixteen numbers for each entry of its limit.
@@ -19,7 +19,9 @@ fn tables_fit(
     references: &[u32],
     limits: Limits,
 ) -> bool
-    ensures { λ r. ⌜ r ≡ (leb (16 * limits .«max_locals») (length (now (locals .entry))) && leb (16 * limits .«max_frames») (length (now (frames .entry))) && leb (16 * limits .«max_captures») (length (now (captures .entry))) && leb (16 * limits .«max_references») (length (now (references .entry)))) ⌝ }
+    ensures { λ r. ⌜ r ≡ (leb (16 * limits .«max_locals») (length (was locals)) && leb (16 * limits .«max_frames»)
+        (length (was frames)) && leb (16 * limits .«max_captures») (length (was captures)) && leb
+        (16 * limits .«max_references») (length (was references))) ⌝ }
 {
     if locals.len() < 16 * (limits.max_locals as usize) {
         return false;
@@ -41,14 +43,15 @@ pub fn enter(
     captures: &[u32],
     references: &[u32],
     limits: Limits,
-) -> Walk
-    ensures { λ r. ⌜ ((out diagnostics : List ℕ) → Entered r (now (tree .entry)) (buffers out diagnostics (now (locals .entry)) (now (frames .entry)) (now (captures .entry)) (now (references .entry))) limits) ⌝ }
+) -> FirstWalk
+    ensures { λ r. ⌜ ((out diagnostics : List ℕ) → Entered r (was tree)
+        (buffers out diagnostics (was locals) (was frames) (was captures) (was references)) limits) ⌝ }
 {
     if !tables_fit(locals, frames, captures, references, limits) {
-        return Walk::Refused(13, 0);
+        return FirstWalk::Refused(13, 0);
     }
     if 16777216 < tree.len() {
-        return Walk::Refused(14, 0);
+        return FirstWalk::Refused(14, 0);
     }
     first_walk(tree)
 }

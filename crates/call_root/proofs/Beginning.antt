@@ -1,5 +1,5 @@
 -- The externals one after another, then the root's frame: the state in which the root's walk begins. Assumes nothing.
-use Prim.Native.Nat.{ℕ, zero, suc, _+_, _*_, _-_, _≤_, _<_}
+use Prim.Native.Nat.{ℕ, suc, _+_, _*_, _-_, _≤_, _<_}
 use mathlib.Core.Bool.{Bool, true, false}
 use mathlib.Core.List.{List, [], _∷_, _++_}
 use mathlib.Core.Option.{none, some}
@@ -9,7 +9,7 @@ use native.Mathlib.Omega.{arith}
 use borrow.Author.Tests.{lt-ltb, le-ltb}
 use lib.ListN.{length, length-append}
 use lib.Dec.{ltb}
-use Rattle.rules.specs.Outcome.{Outcome, ok, refuse, _>>=_, need}
+use Rattle.rules.specs.Outcome.{Outcome, ok, _>>=_, need}
 use Rattle.rules.specs.Numbers.{Name, number-at, numbers-at}
 use Rattle.rules.specs.Records.{no-span}
 use Rattle.rules.specs.Tree.{external}
@@ -22,13 +22,13 @@ use Rattle.rules.specs.Walk as walk
 use Rattle.rules.specs.Writing.{open-frame}
 use Rattle.rules.specs.Call.{define-externals, open-root}
 use Rattle.rules.proofs.After.{After, fine, after-ok, after-bind, after-need, after-weaken}
+use Rattle.rules.proofs.Outcomes.{bind-fine, bind-ext, bind-refused}
 use Rattle.value_local.specs.Meaning.{local}
 use Rattle.value_local.specs.declared.LocalDefinition.{LocalDefinition}
-use Rattle.table_frames.specs.Meaning.{number}
+use Rattle.table_rows.specs.Entries.{number}
 use Rattle.resolver.specs.Meaning.{frame-of, frames-of}
 use Rattle.resolver.specs.Kept.{Kept, Owned}
 use Rattle.resolver.specs.Answers.{Opened}
-use Rattle.law_runs.proofs.Reading.{bind-first, bind-ext}
 use Rattle.state.specs.Seen.{Buffers, buffers, stack, seen, limits-of, Fit, Fits}
 use Rattle.state.specs.Walks.{id-if, place-of}
 use Rattle.state.specs.declared.Place.{Place}
@@ -39,20 +39,14 @@ use Rattle.state.specs.declared.AnalysisStack.{AnalysisStack}
 use Rattle.state.specs.declared.Limits.{Limits}
 use Rattle.state.specs.declared.Step.{Step}
 use Rattle.state.specs.declared.Step.the-variants.{Ok, Refused}
+use Rattle.state.proofs.Changing.{frames-to}
+use Rattle.state.proofs.Fitting.{fit-frames}
 use Rattle.step_locals.specs.Answers.{PushedLocal}
+use Rattle.resolver.proofs.Laws.{length-frames}
 use Rattle.call_root.specs.Answers.{Long-tables, EmptyStack, DefinedExternals, OpenedRoot, BegunRoot}
 use Rattle.step_write.proofs.Laws.{passes, fails}
 
 -- Steps one after another
-
-stopped : {A B : Type 0} {o : Outcome A} {number place : ℕ} (f : A → Outcome B) → o ≡ refuse number place → (o >>= f) ≡ refuse number place
-unfolding _>>=_
-stopped {A = A} f e = ap (λ (o : Outcome A). o >>= f) e
-
-length-frames : (n : ℕ) (frames : List ℕ) (count : ℕ) (captures : List ℕ) → length (frames-of n frames count captures) ≡ n
-unfolding frames-of
-length-frames zero frames count captures = refl
-length-frames (suc n) frames count captures = ap suc (length-frames n frames count captures)
 
 -- The externals by the rules
 
@@ -111,7 +105,7 @@ module _ {s : List ℕ} {limits : Limits} {locals₀ : List ℕ} {st₀ : Analys
         within = omega arith;
         long = long ∙ inv .long;
         same = λ out d fs cs rs.
-            sym (bind-first (λ σ. rest-from (limits-of limits out d) s n (i + 1) σ) (went out d fs cs rs ∙ ap (λ (x : Step). seen x (buffers out d locals′ fs cs rs)) e))
+            sym (bind-fine (λ σ. rest-from (limits-of limits out d) s n (i + 1) σ) (went out d fs cs rs ∙ ap (λ (x : Step). seen x (buffers out d locals′ fs cs rs)) e))
             ∙ sym (first-external (limits-of limits out d) s n i (stack (buffers out d locals fs cs rs) st) lt)
             ∙ inv .same out d fs cs rs;
         fit = λ out d fs cs rs f. subst (λ (x : Step). Fits limits x (buffers out d locals′ fs cs rs)) e (pushed .fit out d fs cs rs (inv .fit out d fs cs rs f));
@@ -120,7 +114,7 @@ module _ {s : List ℕ} {limits : Limits} {locals₀ : List ℕ} {st₀ : Analys
       pub externals-stop : {why place : ℕ} → r ≡ Refused why place → DefinedExternals (Refused why place) s locals₀ locals′ limits st₀ n
       externals-stop e = record {
         same = λ out d fs cs rs.
-            sym (stopped (λ σ. rest-from (limits-of limits out d) s n (i + 1) σ) (went out d fs cs rs ∙ ap (λ (x : Step). seen x (buffers out d locals′ fs cs rs)) e))
+            sym (bind-refused (λ σ. rest-from (limits-of limits out d) s n (i + 1) σ) (went out d fs cs rs ∙ ap (λ (x : Step). seen x (buffers out d locals′ fs cs rs)) e))
             ∙ sym (first-external (limits-of limits out d) s n i (stack (buffers out d locals fs cs rs) st) lt)
             ∙ inv .same out d fs cs rs;
         fit = λ out d fs cs rs f. tt;
@@ -133,22 +127,6 @@ module _ {s : List ℕ} {limits : Limits} {locals₀ : List ℕ} {st₀ : Analys
     }
 
 -- The root's frame
-
-abbrev frames-to : ℕ → AnalysisStack → AnalysisStack
-frames-to n st = record {
-  locals = st .locals;
-  frames = n;
-  captures = st .captures;
-  references = st .references;
-  out = st .out;
-  diagnostics = st .diagnostics;
-  «self_used» = st .«self_used»;
-  «super_used» = st .«super_used»;
-  «dollar_used» = st .«dollar_used»;
-  taint = st .taint;
-  errored = st .errored;
-  rounds = st .rounds;
-}
 
 -- the frames that there are before it don't matter
 two-needs : (test : Bool) (σ σ′ : rules.AnalysisStack) (k : rules.AnalysisStack → rules.AnalysisStack) → k σ ≡ σ′ → ((need test 7 0 >>= λ _. ok σ) >>= λ σ. ok (k σ)) ≡ (need test 7 0 >>= λ _. ok σ′)
@@ -193,21 +171,8 @@ module _ (limits : Limits) (st : AnalysisStack) (n : ℕ) (before : List ℕ) (b
       opened-same = rw frames-are (sym (opens out d ls cs rs ∙ passes (ltb 0 (limits .«max_frames»)) 7 0 _ (lt-ltb 0 (limits .«max_frames») lt)))
 
       opened-fit : Fit limits (buffers out d ls after cs rs) (frames-to 1 st)
-      opened-fit = record {
-        locals-long = fit .locals-long;
-        frames-long = omega (arith, fit .frames-long);
-        captures-long = fit .captures-long;
-        references-long = fit .references-long;
-        few-locals = fit .few-locals;
-        few-frames = omega (arith, lt);
-        few-captures = fit .few-captures;
-        few-references = fit .few-references;
-        out-long = fit .out-long;
-        diagnostics-long = fit .diagnostics-long;
-        frames-kept = opened .kept cs (subst (λ (k : ℕ). Kept k before (st .captures) cs) bare (fit .frames-kept));
-        first-there = λ f lt. let z : f ≡ 0 = omega arith in rw z (omega (arith, first-new));
-        first-rises = λ f g fg lt. absurd (omega arith);
-      }
+      opened-fit = fit-frames fit long refl (omega (arith, lt)) (fit .few-captures) (opened .kept cs (subst (λ (k : ℕ). Kept k before (st .captures) cs) bare (fit .frames-kept)))
+          (λ f lt. let z : f ≡ 0 = omega arith in rw z (omega (arith, first-new))) (λ f g fg lt. absurd (omega arith))
 
     pub root-opened : OpenedRoot (Ok (frames-to 1 st)) before after limits st n
     root-opened = record { same = opened-same; fit = opened-fit }
@@ -270,7 +235,7 @@ module _ {st₀ : AnalysisStack} (empty : EmptyStack st₀) {s ls ls′ : List �
 
   pub begin-stopped : {fs : List ℕ} {number place : ℕ} → r₁ ≡ Refused number place → BegunRoot (Refused number place) s ls ls′ fs fs limits n
   begin-stopped {fs = fs} e = record {
-    same = λ out d cs rs long. sym (stopped (λ σ. open-root (limits-of limits out d) n σ) (defined-from-empty out d fs cs rs ∙ ap (λ (x : Step). seen x (buffers out d ls′ fs cs rs)) e));
+    same = λ out d cs rs long. sym (bind-refused (λ σ. open-root (limits-of limits out d) n σ) (defined-from-empty out d fs cs rs ∙ ap (λ (x : Step). seen x (buffers out d ls′ fs cs rs)) e));
     fit = λ out d cs rs long. tt;
   }
 
@@ -285,7 +250,7 @@ module _ {st₀ : AnalysisStack} (empty : EmptyStack st₀) {s ls ls′ : List �
     begin-opened {fs = fs} opened = record {
       same = λ out d cs rs long.
           opened .same out d ls′ cs rs (fit₁ out d cs rs long)
-          ∙ sym (bind-first (λ σ. open-root (limits-of limits out d) n σ) (defined-from-empty out d fs cs rs ∙ ap (λ (x : Step). seen x (buffers out d ls′ fs cs rs)) e));
+          ∙ sym (bind-fine (λ σ. open-root (limits-of limits out d) n σ) (defined-from-empty out d fs cs rs ∙ ap (λ (x : Step). seen x (buffers out d ls′ fs cs rs)) e));
       fit = λ out d cs rs long. opened .fit out d ls′ cs rs (fit₁ out d cs rs long);
     }
       where

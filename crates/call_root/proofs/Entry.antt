@@ -16,8 +16,8 @@ use Rattle.rules.specs.Writing.{close-frame}
 use Rattle.rules.specs.Walk as walk
 use Rattle.rules.specs.Call.{tables-fit, run, report-of, call, define-externals, open-root}
 use Rattle.rules.specs.Call as rules-call
+use Rattle.rules.proofs.Outcomes.{bind-fine}
 use Rattle.law_runs.specs.Run.{run-expr}
-use Rattle.law_runs.proofs.Reading.{bind-first}
 use Rattle.state.specs.Seen.{Buffers, buffers, stack, seen, limits-of}
 use Rattle.state.specs.Walks.{walked, Walks}
 use Rattle.state.specs.declared.AnalysisStack.{AnalysisStack}
@@ -112,7 +112,7 @@ module _ (s : List ℕ) (b : Buffers) (l : Limits) where
                   pub entry-closes : run (lent s b l) ≡ seen r₃ (buffers out′ (b₂ .diagnostics) (b₂ .locals) (b₂ .frames) captures′ (b₂ .references))
                   entry-closes =
                       entry-begun
-                      ∙ bind-first (λ x. close-frame (limits-of l (b .out) (b .diagnostics)) 0 (x .0)) (sym walk-is ∙ ap (λ (x : Walked). walked x b₂) e₂)
+                      ∙ bind-fine (λ x. close-frame (limits-of l (b .out) (b .diagnostics)) 0 (x .0)) (sym walk-is ∙ ap (λ (x : Walked). walked x b₂) e₂)
                       ∙ ap (λ (L : rules.Limits). close-frame L 0 (stack b₂ st₂)) (limits-kept l long)
                       ∙ sym (closed .same l (b₂ .diagnostics) (b₂ .locals) (b₂ .references))
 

@@ -18,19 +18,19 @@ use Rattle.rules.specs.Walk.{unnamed, at-root, analyze}
 use Rattle.rules.specs.Call.{Lent, Left, AnalysisReport, define-externals, open-root, analyze-root, tables-fit, run, filled, zeroed, report-of, out-of, diagnostics-of, left-by, call}
 use Rattle.rules.specs.Call as rules-call
 use Rattle.rules.proofs.After.{After, fine, after-ok, after-bind, after-need}
-use Rattle.tree.specs.declared.Walk.{Walk}
-use Rattle.tree.specs.declared.Walk.the-variants as walk-as
+use Rattle.rules.proofs.Outcomes.{same-ok, no-answer, bind-fine, bind-ext, bind-got, bind-assoc, need-true}
+use Rattle.tree.specs.declared.FirstWalk.{FirstWalk}
+use Rattle.tree.specs.declared.FirstWalk.the-variants as walk-as
 use Rattle.tree.specs.Seen.{seen, ended}
 use Rattle.bytes_skip.specs.Places.{judged-at, expected-at}
 use Rattle.tree.proofs.Definition.{got, only-row, record-expected}
 use Rattle.bytes_records.proofs.Laws.{mark-code}
 use Rattle.law_runs.specs.Run.{Accepted, run-expr}
-use Rattle.law_runs.proofs.Reading.{both, need-true, same-ok, no-answer, bind-first, bind-ext, bind-assoc}
 use Rattle.step_write.proofs.Laws.{passes, fails}
 
 -- The tree that was read
 
--- its head's number, and what stands behind the names
+-- its head's number, and what stands after the names
 pub record Whole (s : List ℕ) (t : Tree) : Type 0 where
   pub few : number-at s 2 ≤ 65535
   pub room : 6 + 4 * number-at s 2 ≤ length s
@@ -40,7 +40,7 @@ pub record Whole (s : List ℕ) (t : Tree) : Type 0 where
   pub root-is : t .root ≡ read .what .0
 
 module _ (s : List ℕ) where
-  -- what is read behind a head with this number of names
+  -- what is read after a head with this number of names
   abbrev tree-from : (n next : ℕ) → Outcome Tree
   tree-from n next = need (leb n 65535) 11 0 >>= λ _. need (leb (next + 4 * n) (length s)) 1 0 >>= λ _. expr-at s 200 any-expression (next + 4 * n) >>= λ x.
       need (eqb (x .1) (length s)) 5 (x .1) >>= λ _. ok (record { externals = numbers-at s n next; root = x .0 })
@@ -60,7 +60,7 @@ module _ (s : List ℕ) where
   from-head : {t : Tree} → tree-at s ≡ ok t → tree-from (number-at s 2) 6 ≡ ok t
   unfolding tree-at
   from-head {t} h =
-      let b = both (record-at s (only JT) 0) (λ r. tree-from (nth r 0) (r .next)) h in
+      let b = bind-got (record-at s (only JT) 0) (λ r. tree-from (nth r 0) (r .next)) h in
       let told = after-ok head-told (b .first) in
       sym (ap₂ (λ (n next : ℕ). tree-from n next) (told .1) (told .0)) ∙ b .second
 
@@ -68,7 +68,7 @@ module _ (s : List ℕ) where
   whole {t} h =
       let one = need-true _ 11 0 _ (from-head h) in
       let two = need-true _ 1 0 _ (one .1) in
-      let x = both (expr-at s 200 any-expression (6 + 4 * number-at s 2)) _ (two .1) in
+      let x = bind-got (expr-at s 200 any-expression (6 + 4 * number-at s 2)) _ (two .1) in
       let end = need-true _ 5 _ _ (x .second) in
       let e : _≡_ {A = Tree} (record { externals = numbers-at s (number-at s 2) 6; root = x .middle .0 }) t = same-ok (end .1) in
       record {
@@ -96,12 +96,12 @@ module _ (s : List ℕ) where
   refused-tree (ok t) e = absurd (no-answer e)
   refused-tree (refuse n p) e = cc
 
-  pub tree-there : {r : Walk} → seen r ≡ ended (length s) (tree-at s) → {q : ℕ} → r ≡ walk-as.Past q → Tree-there
+  pub tree-there : {r : FirstWalk} → seen r ≡ ended (length s) (tree-at s) → {q : ℕ} → r ≡ walk-as.Past q → Tree-there
   tree-there h {q} e =
       let a = past-tree (tree-at s) (sym (ap seen e) ∙ h) in
       record { tree = a .what; there = a .there; whole-tree = whole (a .there) }
 
-  pub tree-refused : {r : Walk} → seen r ≡ ended (length s) (tree-at s) → {number place : ℕ} → r ≡ walk-as.Refused number place → tree-at s ≡ refuse number place
+  pub tree-refused : {r : FirstWalk} → seen r ≡ ended (length s) (tree-at s) → {number place : ℕ} → r ≡ walk-as.Refused number place → tree-at s ≡ refuse number place
   tree-refused h e = refused-tree (tree-at s) (sym (ap seen e) ∙ h)
 
 -- What is run over it
@@ -122,9 +122,9 @@ module _ {s : List ℕ} {t : Tree} (w : Whole s t) (limits : rules.Limits) where
   run-walked : (σ : rules.AnalysisStack) → (analyze limits (t .root) unnamed at-root σ >>= λ σ. close-frame limits 0 σ) ≡ root-walked σ
   unfolding run-expr
   run-walked σ = sym (
-      ap (λ (o : Outcome (rules.AnalysisStack × ℕ)). o >>= λ x. close-frame limits 0 (x .0)) (bind-first (λ x. analyze limits (x .0) unnamed at-root σ >>= λ σ. ok (σ, x .1)) (w .read .there))
+      ap (λ (o : Outcome (rules.AnalysisStack × ℕ)). o >>= λ x. close-frame limits 0 (x .0)) (bind-fine (λ x. analyze limits (x .0) unnamed at-root σ >>= λ σ. ok (σ, x .1)) (w .read .there))
       ∙ bind-assoc (analyze limits (w .read .what .0) unnamed at-root σ) _ _
-      ∙ bind-ext (analyze limits (w .read .what .0) unnamed at-root σ) _ (λ σ. close-frame limits 0 σ) (λ σ. bind-first (λ (x : rules.AnalysisStack × ℕ). close-frame limits 0 (x .0)) refl)
+      ∙ bind-ext (analyze limits (w .read .what .0) unnamed at-root σ) _ (λ σ. close-frame limits 0 σ) (λ σ. bind-fine (λ (x : rules.AnalysisStack × ℕ). close-frame limits 0 (x .0)) refl)
       ∙ ap (λ (e : Expr). analyze limits e unnamed at-root σ >>= λ σ. close-frame limits 0 σ) (sym (w .root-is)))
 
   pub whole-run : analyze-root limits t
@@ -141,7 +141,7 @@ module _ {s : List ℕ} {t : Tree} (w : Whole s t) (limits : rules.Limits) where
   whole-begun = whole-run ∙ sym (bind-assoc (define-externals limits 0 (numbers-at s (number-at s 2) 6) rules.empty-stack) (λ σ. open-root limits (number-at s 2) σ) root-walked)
 
   pub whole-from : {σ : rules.AnalysisStack} → root-begun-by ≡ ok σ → analyze-root limits t ≡ root-walked σ
-  whole-from e = whole-begun ∙ bind-first root-walked e
+  whole-from e = whole-begun ∙ bind-fine root-walked e
 
   pub whole-not-begun : {number place : ℕ} → root-begun-by ≡ refuse number place → analyze-root limits t ≡ refuse number place
   unfolding _>>=_
@@ -169,7 +169,7 @@ module _ (b : Lent) where
       run-refused e = run-read ∙ ap (λ (o : Outcome Tree). o >>= λ t. analyze-root (rules-call.limits-of b) t) e
 
       pub run-accepted : {t : Tree} → tree-at (b .tree) ≡ ok t → run b ≡ analyze-root (rules-call.limits-of b) t
-      run-accepted e = run-read ∙ bind-first (λ t. analyze-root (rules-call.limits-of b) t) e
+      run-accepted e = run-read ∙ bind-fine (λ t. analyze-root (rules-call.limits-of b) t) e
 
 -- What is left
 

@@ -42,7 +42,7 @@ pub record EmptyStack (r : AnalysisStack) : Type 0 where
   pub same : (b : Buffers) → stack b r ≡ rules.empty-stack
   pub fit : (l : Limits) (b : Buffers) → Long-tables l b → Fit l b r
 
--- the names of n externals behind the locals
+-- the names of n externals after the locals
 pub record DefinedExternals (r : Step) (s locals locals′ : List ℕ) (limits : Limits) (st : AnalysisStack) (n : ℕ) : Type 0 where
   pub same : (out diagnostics frames captures references : List ℕ)
       → seen r (buffers out diagnostics locals′ frames captures references)
@@ -69,14 +69,14 @@ pub record BegunRoot (r : Step) (s locals locals′ frames frames′ : List ℕ)
       → Long-tables limits (buffers out diagnostics locals frames captures references)
       → Fits limits r (buffers out diagnostics locals′ frames′ captures references)
 
--- the first bytes as they were, and zeros behind them
+-- the first bytes as they were, and zeros after them
 abbrev pub Zeroed-behind : (kept : ℕ) → (before after : List ℕ) → Type 0
 Zeroed-behind kept before after = after ≡ take kept before ++ replicate (length before - kept) 0
 
 abbrev pub Zeroed : (before after : List ℕ) → Type 0
 Zeroed before after = after ≡ replicate (length before) 0
 
--- both byte buffers behind what is kept of them, and the tables wholly
+-- both byte buffers after what is kept of them, and the tables wholly
 pub record Cleared (out-length diagnostics-length : ℕ) (b b′ : Buffers) : Type 0 where
   pub out : Zeroed-behind out-length (b .out) (b′ .out)
   pub diagnostics : Zeroed-behind diagnostics-length (b .diagnostics) (b′ .diagnostics)

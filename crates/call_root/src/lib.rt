@@ -11,7 +11,7 @@ ghost use Rattle.rules.specs.Locals.{new-local};
 ghost use Rattle.rules.specs.Walk.{at-root};
 ghost use Rattle.rules.specs.Call.{report-of};
 ghost use Rattle.value_local.specs.Meaning.{local};
-ghost use Rattle.state.specs.Seen.{buffers};
+ghost use Rattle.state.specs.Seen.{before, after, was, is};
 ghost use Rattle.state.specs.Walks.{place-of};
 ghost use Rattle.call_root.specs.Answers.{report-meaning, ReportsState, EmptyStack, DefinedExternals, OpenedRoot, BegunRoot, Cleared};
 use bytes_read::number_at;
@@ -23,6 +23,7 @@ use state::Place;
 use state::Step;
 use step_locals::push_local;
 use value_depths::AnalysisResult;
+use value_depths::NEVER;
 use value_local::LocalDefinition;
 use value_local::LocalId;
 
@@ -106,7 +107,7 @@ pub fn accepted(st: AnalysisStack) -> AnalysisReport
     }
 }
 
-// The tables become zero, and both buffers behind what is kept of them.
+// The tables become zero, and both buffers after what is kept of them.
 pub fn clear(
     out: &mut [u8],
     diagnostics: &mut [u8],
@@ -117,7 +118,9 @@ pub fn clear(
     out_length: usize,
     diagnostics_length: usize,
 )
-    ensures { λ _. ⌜ Cleared «out_length» «diagnostics_length» (buffers (now (out .entry)) (now (diagnostics .entry)) (now (locals .entry)) (now (frames .entry)) (now (captures .entry)) (now (references .entry))) (buffers (now (out .exit)) (now (diagnostics .exit)) (now (locals .exit)) (now (frames .exit)) (now (captures .exit)) (now (references .exit))) ⌝ }
+    ensures { λ _. ⌜ Cleared «out_length» «diagnostics_length»
+        (before out diagnostics locals frames captures references)
+        (after out diagnostics locals frames captures references) ⌝ }
 {
     zero_bytes(out, out_length);
     zero_bytes(diagnostics, diagnostics_length);
@@ -134,7 +137,7 @@ fn new_external(position: u32, name: u32) -> LocalDefinition
     let none = AnalysisResult::no_dependence();
     LocalDefinition {
         defined_at_depth: 0,
-        used_at_depth: 4294967295,
+        used_at_depth: NEVER,
         used_by_sibling: false,
         analysis: none,
         analyzed: true,
@@ -147,7 +150,7 @@ fn new_external(position: u32, name: u32) -> LocalDefinition
     }
 }
 
-// The n externals, whose names stand behind the tree's head.
+// The n externals, whose names stand after the tree's head.
 pub fn define_externals(
     tree: &[u8],
     locals: &mut [u32],
@@ -156,7 +159,7 @@ pub fn define_externals(
     n: u32,
 ) -> Step
     requires { ⌜ (6 + 4 * n ≤ length (now tree)) × (16 * limits .«max_locals» ≤ length (now locals)) ⌝ }
-    ensures { λ r. ⌜ DefinedExternals r (now (tree .entry)) (now (locals .entry)) (now (locals .exit)) limits st n ⌝ }
+    ensures { λ r. ⌜ DefinedExternals r (was tree) (was locals) (is locals) limits st n ⌝ }
 {
     let mut reached = st;
     let mut i: u32 = 0;
@@ -180,12 +183,12 @@ pub fn define_externals(
 // The root's frame, whose locals are the n externals; or refusal 7.
 pub fn open_root(frames: &mut [u32], limits: Limits, st: AnalysisStack, n: u32) -> Step
     requires { ⌜ (16 * limits .«max_frames» ≤ length (now frames)) × (st .frames ≡ 0) × (n ≤ 65535) ⌝ }
-    ensures { λ r. ⌜ OpenedRoot r (now (frames .entry)) (now (frames .exit)) limits st n ⌝ }
+    ensures { λ r. ⌜ OpenedRoot r (was frames) (is frames) limits st n ⌝ }
 {
     if limits.max_frames == 0 {
         return Step::Refused(7, 0);
     }
-    resolver::open_frame(frames, 0, true, 0, n, st.captures);
+    resolver::push_frame(frames, 0, true, 0, n, st.captures);
     let mut after = st;
     after.frames = 1;
     Step::Ok(after)
@@ -199,8 +202,9 @@ pub fn begin_root(
     limits: Limits,
     n: u32,
 ) -> Step
-    requires { ⌜ (6 + 4 * n ≤ length (now tree)) × (n ≤ 65535) × (16 * limits .«max_locals» ≤ length (now locals)) × (16 * limits .«max_frames» ≤ length (now frames)) ⌝ }
-    ensures { λ r. ⌜ BegunRoot r (now (tree .entry)) (now (locals .entry)) (now (locals .exit)) (now (frames .entry)) (now (frames .exit)) limits n ⌝ }
+    requires { ⌜ (6 + 4 * n ≤ length (now tree)) × (n ≤ 65535) × (16 * limits .«max_locals» ≤ length (now locals)) ×
+        (16 * limits .«max_frames» ≤ length (now frames)) ⌝ }
+    ensures { λ r. ⌜ BegunRoot r (was tree) (was locals) (is locals) (was frames) (is frames) limits n ⌝ }
 {
     let st = empty_stack();
     let defined = define_externals(tree, locals, limits, st, n);

@@ -1,23 +1,19 @@
 -- Each demand of the user, from the contract of `analyze` alone. Assumes only that the tree lent is made of bytes, as every `&[u8]` is.
 use Prim.Native.Nat.{ℕ, _-_}
-use mathlib.Core.Bool.{Bool, true, false}
-use mathlib.Core.List.{List, [], _∷_, _++_}
-use mathlib.Core.Option.{some}
-use mathlib.Core.Path.{_≡_, refl, sym, ap, _∙_, subst}
+use mathlib.Core.Bool.{false}
+use mathlib.Core.List.{List}
+use mathlib.Core.Path.{_≡_, refl, sym, ap, _∙_}
 use lib.ListN.{length, take, drop, replicate}
 use lib.Seq.{take-append-seam, drop-append-seam}
 use Rattle.rules.specs.Outcome.{Outcome, ok, refuse, is-refusal-number}
 use Rattle.rules.specs.Range.{Bytes}
-use Rattle.rules.specs.Tree.{Tree}
-use Rattle.rules.specs.FirstWalk.{tree-at}
 use Rattle.rules.specs.State.{AnalysisStack}
-use Rattle.rules.specs.Call.{Lent, Left, run, report-of, out-of, diagnostics-of, filled, zeroed, left-by, call, Allows}
+use Rattle.rules.specs.Call.{Left, run, report-of, out-of, diagnostics-of, filled, zeroed, left-by, call, Allows}
 use Rattle.state.specs.Seen.{Buffers}
 use Rattle.state.specs.declared.Limits.{Limits}
 use Rattle.call_root.specs.Answers.{lent, left, report-meaning}
 use Rattle.call_root.specs.declared.AnalysisReport.{AnalysisReport}
 use Rattle.claim_scope.proofs.Accepted.{checked, call-checked}
-use Rattle.claim_reach.specs.Lexical.{lexical-read}
 use Rattle.claim_reach.specs.Reach.{reaches, Reaches}
 use Rattle.claim_reach.proofs.EachSlot.{each-slot-reaches-its-binding}
 use Rattle.claim_demands.specs.Demands.{Called, Left-behind, Refusal, Scoped, Reached}

@@ -26,11 +26,11 @@ Called tree b limits r b′ = left r b′ ≡ call (lent tree b limits)
 abbrev Zero : (before after : List ℕ) → Type 0
 Zero before after = after ≡ replicate (length before) 0
 
--- zeros behind so many
+-- zeros after so many
 abbrev Zero-behind : ℕ → (before after : List ℕ) → Type 0
 Zero-behind n before after = drop n after ≡ replicate (length before - n) 0
 
--- demand 1, of every call: the tables are zero, and the byte buffers behind the lengths that the report says
+-- demand 1, of every call: the tables are zero, and the byte buffers after the lengths that the report says
 pub record Left-behind (b : Buffers) (r : AnalysisReport) (b′ : Buffers) : Type 0 where
   pub out : Zero-behind (r .«out_length») (b .out) (b′ .out)
   pub diagnostics : Zero-behind (r .«diagnostics_length») (b .diagnostics) (b′ .diagnostics)

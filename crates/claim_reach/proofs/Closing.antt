@@ -1,18 +1,17 @@
 -- A frame that closes: its shape opens it again, over every later view of the frame beneath. Assumes nothing.
-use Prim.Native.Nat.{ℕ, zero, suc, _+_, _*_, _-_, _<_, _≤_}
-use mathlib.Core.Bool.{Bool, true, false}
-use mathlib.Core.List.{List, [], _∷_, _++_, map, append-nil}
-use mathlib.Core.Option.{Option, none, some}
+use Prim.Native.Nat.{ℕ, suc, _*_, _<_}
+use mathlib.Core.List.{List, [], _∷_, _++_}
+use mathlib.Core.Option.{some}
 use native.Mathlib.Omega.{arith}
-use mathlib.Core.Path.{_≡_, refl, sym, ap, _∙_, subst}
-use lib.ListN.{length, getD, take, drop, length-append}
+use mathlib.Core.Path.{_≡_, refl, sym, subst}
+use lib.ListN.{length, getD, drop}
 use Rattle.rules.specs.Numbers.{SH}
 use Rattle.rules.specs.Range.{Numbers}
 use Rattle.rules.specs.Tree.{Binding}
 use Rattle.rules.specs.Frames.{LSlot, local-slot, capture-slot, Capture, ClosureFrame, top, beneath}
 use Rattle.rules.specs.Writing.{slot-number, pair-of, pairs-of, shape-numbers}
 use Rattle.claim_reach.specs.Reach.{View, sources}
-use Rattle.claim_reach.proofs.Resolving.{Grown, all-grown, grown, Stacked, bottom, on-top, Later, Sourced, no-more, also, Good, none-open, one-more, view-of, taken-of, sourced-later, shape-opens}
+use Rattle.claim_reach.proofs.Resolving.{Grown, grown, Stacked, on-top, Later, Sourced, no-more, also, Good, one-more, view-of, taken-of, sourced-later, shape-opens}
 use Rattle.claim_reach.proofs.Decoding.{OutFits, fits-shape}
 
 module _ (lbs : List Binding) where

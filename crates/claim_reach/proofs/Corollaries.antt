@@ -1,21 +1,21 @@
 -- What a reader looks for: the inner of two binders, $ in a nested object, slots and sources inside their frame. Assumes nothing.
-use Prim.Native.Nat.{ℕ, zero, suc, _+_, _<_}
-use mathlib.Core.Bool.{Bool, true, false, false≢true}
+use Prim.Native.Nat.{ℕ, zero, suc, _<_}
+use mathlib.Core.Bool.{Bool, true, false}
 use mathlib.Core.List.{List, [], _∷_, _++_}
 use mathlib.Core.Option.{Option, none, some, Option·some-injective}
 use native.Mathlib.Omega.{arith}
-use mathlib.Core.Path.{_≡_, refl, sym, ap, _∙_, subst}
+use mathlib.Core.Path.{_≡_, refl, ap, _∙_}
 use lib.ListN.{length, getD, getElem?, drop}
 use lib.Dec.{eqb}
 use borrow.Author.Tests.{eq-eqb, eqb-true}
-use Rattle.rules.specs.Outcome.{ok, choose, given}
-use Rattle.rules.specs.Numbers.{Name, Record, same-name, code, SH}
+use Rattle.rules.specs.Outcome.{choose, given}
+use Rattle.rules.specs.Numbers.{Name, same-name, SH}
 use Rattle.rules.specs.Records.{Span}
-use Rattle.rules.specs.Tree.{Tree, Expr, Binding, at-record, Head, identity, variable, local, function, object, no-exprs, _then_, no-binds, bind, no-params, param, fixed, no-heads}
+use Rattle.rules.specs.Tree.{Expr, Binding, at-record, variable, local, no-binds, bind}
 use Rattle.claim_scope.specs.Scope.{Scope, meaning, identity-means, bind-names, under, in-object}
 use Rattle.claim_reach.specs.Lexical.{read}
 use Rattle.claim_reach.specs.Decode.{_>>=_}
-use Rattle.claim_reach.specs.Reach.{View, Trail, source, sources, expect, check, open-defining, open-using}
+use Rattle.claim_reach.specs.Reach.{View, Trail, source, sources, expect, check, open-defining}
 use Rattle.claim_reach.proofs.Resolving.{none≢some}
 
 -- Of two binders the inner

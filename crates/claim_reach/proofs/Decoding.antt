@@ -1,16 +1,16 @@
 -- The records of an output are had back from its bytes. Assumes nothing.
-use Prim.Native.Nat.{ℕ, zero, suc, _+_, _*_, _<_, _≤_}
+use Prim.Native.Nat.{ℕ, zero, suc, _+_, _*_, _≤_}
 use native.Mathlib.Omega.{arith}
-use mathlib.Core.Bool.{Bool, true, false}
+use mathlib.Core.Bool.{false}
 use mathlib.Core.List.{List, [], _∷_, _++_, append-assoc, append-nil}
-use mathlib.Core.Option.{Option, none, some}
-use mathlib.Core.Path.{_≡_, refl, sym, ap, _∙_, subst}
+use mathlib.Core.Option.{some}
+use mathlib.Core.Path.{_≡_, refl, sym, ap, _∙_}
 use lib.ListN.{length, drop, length-append}
 use lib.Seq.{drop-append-seam}
 use borrow.Author.Tests.{le-leb}
 use Rattle.rules.specs.Outcome.{choose}
-use Rattle.rules.specs.Numbers.{Mark, Record, AC, SH, code, code-at, mark-bytes, number-at, numbers-at, number-bytes, numbers-bytes, record-bytes, records-bytes}
-use Rattle.rules.specs.Records.{out-fields, widths, width, no-tail, constants-tail, pairs-tail}
+use Rattle.rules.specs.Numbers.{Mark, Record, AC, SH, code, code-at, mark-bytes, number-bytes, numbers-bytes, record-bytes, records-bytes}
+use Rattle.rules.specs.Records.{out-fields, widths, width, no-tail}
 use Rattle.rules.specs.Range.{Numbers}
 use Rattle.rules.proofs.Lists.{Piece, piece-whole, piece-first, piece-second}
 use Rattle.rules.proofs.Spelling.{number-back, numbers-back}

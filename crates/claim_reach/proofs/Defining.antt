@@ -1,27 +1,19 @@
 -- Defining a frame's names, none of which is defined twice: the locals mean what the scope says. Assumes nothing.
-use Prim.Native.Nat.{ℕ, zero, suc, _+_, _-_, _<_, _≤_}
-use mathlib.Core.Bool.{Bool, true, false, _||_, false≢true}
-use mathlib.Core.List.{List, [], _∷_, _++_, map, append-assoc, append-nil}
+use Prim.Native.Nat.{ℕ, zero, suc, _≤_}
+use mathlib.Core.Bool.{Bool, true, false}
+use mathlib.Core.List.{List, [], _∷_, _++_, append-assoc, append-nil}
 use mathlib.Core.Option.{Option, none, some}
 use native.Mathlib.Omega.{arith}
-use mathlib.Core.Path.{_≡_, refl, sym, ap, ap₂, _∙_, subst}
+use mathlib.Core.Path.{_≡_, refl, sym, ap, ap₂, _∙_}
 use lib.ListN.{length, getD, length-append, List·getD-append}
-use lib.Dec.{eqb}
 use borrow.Author.Tests.{eqb-true}
-use Rattle.rules.specs.Outcome.{Outcome, ok, refuse, need, choose, given}
+use Rattle.rules.specs.Outcome.{choose, given}
 use Rattle.rules.specs.Numbers.{Name, same-name}
-use Rattle.rules.specs.Records.{Span}
-use Rattle.rules.specs.Tree.{Binding, at-record, external}
-use Rattle.rules.specs.Locals.{LocalDefinition, local-at, new-local, newest, has-name}
-use Rattle.rules.specs.Frames.{ClosureFrame, top, beneath, with-one-more-local}
-use Rattle.rules.specs.State.{Limits, AnalysisStack, with-frames, with-locals, with-sink}
-use Rattle.rules.specs.Writing.{error, is-error, report}
-use Rattle.rules.specs.Scoping.{first-in-frame, is-taken, push-local, push-in-frame, define-local}
-use Rattle.rules.proofs.After.{After, fine, after-weaken, after-bind, after-need, after-choose, chosen}
+use Rattle.rules.specs.Tree.{Binding, external}
 use Rattle.claim_scope.specs.Scope.{meaning}
-use Rattle.claim_reach.proofs.Promise.{Key, key, keys, labels, named, newest-key, labelled, Inside}
-use Rattle.claim_reach.proofs.Names.{key-at, named-as, newest-inside, or-true}
-use Rattle.claim_reach.proofs.Relabel.{labels-append, label-count, defined-frame}
+use Rattle.claim_reach.proofs.Promise.{Key, labels, named, newest-key, labelled, Inside, label-count}
+use Rattle.claim_reach.proofs.Names.{newest-inside}
+use Rattle.claim_reach.proofs.Relabel.{labels-append}
 
 abbrev pub Names : Type 0
 Names = List (Name × Binding)

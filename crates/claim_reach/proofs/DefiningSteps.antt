@@ -1,30 +1,30 @@
 -- The steps that define names. Assumes nothing.
 use Prim.Native.Nat.{ℕ, zero, suc, _+_, _-_, _<_, _≤_}
-use mathlib.Core.Bool.{Bool, true, false, _||_, false≢true}
-use mathlib.Core.List.{List, [], _∷_, _++_, map, append-assoc, append-nil}
+use mathlib.Core.Bool.{Bool, true, false, false≢true, or-true}
+use mathlib.Core.List.{List, [], _∷_, _++_, append-assoc, append-nil}
 use mathlib.Core.Option.{Option, none, some}
 use native.Mathlib.Omega.{arith}
 use native.Mathlib.Decide.{decLt}
 use mathlib.Core.Path.{_≡_, refl, sym, ap, ap₂, _∙_, subst}
-use lib.ListN.{length, getD, drop, length-append}
+use lib.ListN.{length, getD, length-append}
 use lib.Seq.{getD-drop, drop-append-seam}
 use borrow.Author.Tests.{ltb-true}
-use Rattle.rules.specs.Outcome.{Outcome, ok, refuse, need, choose, given}
-use Rattle.rules.specs.Numbers.{Name, same-name}
+use Rattle.rules.specs.Outcome.{choose, given}
+use Rattle.rules.specs.Numbers.{Name}
 use Rattle.rules.specs.Records.{Span}
 use Rattle.rules.specs.Tree.{Binding, at-record, external, Binds, Params, no-binds, bind, no-params, param, param-or}
 use Rattle.rules.specs.Locals.{LocalDefinition, local-at, new-local, newest, has-name}
 use Rattle.rules.specs.Frames.{ClosureFrame, top, beneath, with-one-more-local}
 use Rattle.rules.specs.State.{Limits, AnalysisStack, with-frames, with-locals, with-sink}
-use Rattle.rules.specs.Writing.{error, is-error, report}
+use Rattle.rules.specs.Writing.{is-error, report}
 use Rattle.rules.specs.Scoping.{first-in-frame, is-taken, push-local, push-in-frame, define-local, define-this}
 use Rattle.rules.specs.Walk.{define-binds, define-params}
 use Rattle.rules.proofs.After.{After, fine, after-weaken, after-bind, after-need, after-choose}
 use Rattle.claim_scope.specs.Scope.{meaning, bind-names, param-names}
 use Rattle.claim_reach.specs.Reach.{bind-slots, param-slots}
 use Rattle.claim_reach.proofs.Resolving.{none≢some}
-use Rattle.claim_reach.proofs.Promise.{Key, key, keys, labels, named}
-use Rattle.claim_reach.proofs.Names.{key-at, named-as, or-true}
+use Rattle.claim_reach.proofs.Promise.{Key, key, keys, labels, named, keys-append}
+use Rattle.claim_reach.proofs.Names.{key-at, named-as}
 use Rattle.claim_reach.proofs.Relabel.{defined-frame}
 use Rattle.claim_reach.proofs.Frames.{as-many}
 use Rattle.claim_reach.proofs.Defining.{Names, names-in, Scoped, scoped-name, scoped-this, one-longer}
@@ -79,10 +79,6 @@ not-taken : (o : Option ℕ) → given o (λ _. false) (λ id. true) ≡ false �
 unfolding given
 not-taken none e = refl
 not-taken (some id) e = absurd (false≢true (sym e))
-
-keys-append : (xs ys : List LocalDefinition) → keys (xs ++ ys) ≡ keys xs ++ keys ys
-keys-append [] ys = refl
-keys-append (x ∷ xs) ys = ap (λ (ks : List Key). key x ∷ ks) (keys-append xs ys)
 
 free-name : {ks : List Key} {fs : List ClosureFrame} {names : Names} {seg : List Key} (name : Name) (st : AnalysisStack) → is-taken name st ≡ false → Holding ks fs names seg st → meaning name (names-in seg) ≡ none
 unfolding is-taken first-in-frame top defined-frame

@@ -1,12 +1,11 @@
 -- Demand 3: of every tree accepted without an error, each slot reaches the binding that lexical scoping gives. Assumes nothing.
-use mathlib.Core.Bool.{Bool, true, false}
-use mathlib.Core.Path.{_≡_, refl, sym, ap, _∙_, subst}
-use Rattle.rules.specs.Outcome.{Outcome, ok, refuse, _>>=_, need}
+use mathlib.Core.Path.{_≡_}
+use Rattle.rules.specs.Outcome.{ok, _>>=_}
 use Rattle.rules.specs.Tree.{Tree}
 use Rattle.rules.specs.FirstWalk.{tree-at}
-use Rattle.rules.specs.State.{Limits, AnalysisStack}
-use Rattle.rules.specs.Call.{Lent, limits-of, tables-fit, analyze-root, run}
-use Rattle.rules.proofs.After.{After, fine, refused, after-ok, after-need}
+use Rattle.rules.specs.State.{AnalysisStack}
+use Rattle.rules.specs.Call.{Lent, limits-of, analyze-root, run}
+use Rattle.rules.proofs.After.{after-ok, after-need, after-self}
 use Rattle.rules.proofs.Accepted.{accepted-fits}
 use Rattle.claim_reach.specs.Reach.{Reaches}
 use Rattle.claim_reach.proofs.Fitting.{ChildKeeps}
@@ -17,11 +16,7 @@ use Rattle.claim_reach.proofs.Everywhere.{walks}
 -- what was accepted was analysed
 analysed : (b : Lent) (t : Tree) (st : AnalysisStack) → tree-at (b .tree) ≡ ok t → run b ≡ ok st → analyze-root (limits-of b) t ≡ ok st
 unfolding run _>>=_
-analysed b t st read e = after-ok {P = λ (st : AnalysisStack). analyze-root (limits-of b) t ≡ ok st} (after-need _ 13 0 _ λ _. after-need _ 14 0 _ λ _. rw read (itself (analyze-root (limits-of b) t))) e
-  where
-    itself : {A : Type 0} (o : Outcome A) → After (λ (a : A). o ≡ ok a) o
-    itself (ok a) = fine refl
-    itself (refuse number place) = refused
+analysed b t st read e = after-ok {P = λ (st : AnalysisStack). analyze-root (limits-of b) t ≡ ok st} (after-need _ 13 0 _ λ _. after-need _ 14 0 _ λ _. rw read (after-self (analyze-root (limits-of b) t))) e
 
 pub each-slot-reaches-its-binding : Reaches
 unfolding Reaches ChildKeeps

@@ -1,36 +1,29 @@
 -- A frame's end, and a spec's: what they leave of what was kept. Assumes nothing.
-use Prim.Native.Nat.{ℕ, zero, suc, _+_, _-_, _<_, _≤_}
-use mathlib.Core.Bool.{Bool, true, false, false≢true}
-use mathlib.Core.List.{List, [], _∷_, _++_, map, reverse, append-assoc, append-nil}
-use mathlib.Core.Option.{Option, none, some}
-use native.Mathlib.Omega.{arith}
-use mathlib.Core.Path.{_≡_, refl, sym, ap, ap₂, _∙_, subst}
-use lib.ListN.{length, getD, take, drop, length-map}
-use lib.Dec.{eqb}
-use borrow.Author.Tests.{eq-eqb}
-use Rattle.rules.specs.Outcome.{Outcome, ok, refuse, need, choose, given}
-use Rattle.rules.specs.Numbers.{Name, Record, Mark, SH, code, record-bytes, records-bytes}
-use Rattle.rules.specs.Depths.{AnalysisResult}
-use Rattle.rules.specs.Tree.{Binding, at-record, external}
-use Rattle.rules.specs.Locals.{LocalDefinition, local-at, passed-on}
-use Rattle.rules.specs.Frames.{Capture, ClosureFrame, no-frame, new-frame, top, beneath, defining}
+use Prim.Native.Nat.{ℕ}
+use mathlib.Core.Bool.{false}
+use mathlib.Core.List.{List, [], _∷_, _++_, reverse}
+use mathlib.Core.Option.{Option, some}
+use mathlib.Core.Path.{_≡_, refl, sym, ap, _∙_, subst}
+use lib.ListN.{length}
+use Rattle.rules.specs.Numbers.{Mark, SH, record-bytes}
+use Rattle.rules.specs.Frames.{ClosureFrame, top, beneath}
 use Rattle.rules.specs.Settling.{propagate-use}
-use Rattle.rules.specs.State.{Limits, AnalysisStack, with-frames, with-locals, with-references, with-taint, with-out, with-sink, taken-back}
-use Rattle.rules.specs.Writing.{shape-numbers, emit, close-frame}
-use Rattle.rules.specs.Scoping.{first-in-frame, frame-locals, settle-frame, judge-all, finish-frame, is-at, is-kept, set-analysis, taint-outer, drop-spec, record-spec-init}
+use Rattle.rules.specs.State.{Limits, AnalysisStack, with-frames, with-locals, with-references, with-out, with-sink}
+use Rattle.rules.specs.Writing.{close-frame}
+use Rattle.rules.specs.Scoping.{first-in-frame, settle-frame, finish-frame}
 use Rattle.rules.specs.Walk.{Place}
-use Rattle.rules.proofs.After.{After, fine, after-weaken, after-bind, after-need, after-choose}
+use Rattle.rules.proofs.After.{After, fine, after-bind}
 use Rattle.claim_scope.specs.Scope.{Scope, Meant}
 use Rattle.claim_reach.specs.Decode.{_>>=_}
-use Rattle.claim_reach.specs.Reach.{View, Trail, Reached, expect, open-defining}
-use Rattle.claim_reach.proofs.Resolving.{Grown, all-grown, grown, Stacked, bottom, on-top, Good, view-of, Later}
+use Rattle.claim_reach.specs.Reach.{expect, open-defining}
+use Rattle.claim_reach.proofs.Resolving.{Grown, all-grown, grown, Stacked, Good, view-of, Later}
 use Rattle.claim_reach.proofs.Decoding.{OutFits}
-use Rattle.claim_reach.proofs.Promise.{Key, key, keys, labels, Agree, Ready, Back, Kept, Step, expect-first, back}
+use Rattle.claim_reach.proofs.Promise.{Key, labels, Ready, Back, Kept, Step, expect-first, back}
 use Rattle.claim_reach.proofs.Frames.{emit-is, out-more, fit-more, closed-state}
 use Rattle.claim_reach.proofs.Using.{kept-from}
-use Rattle.claim_reach.proofs.Names.{key-at, step-same}
-use Rattle.claim_reach.proofs.Keys.{Same, same-none, same-then, same-settle, use-keeps, same-judge-all, same-references-kept, same-analysis}
-use Rattle.claim_reach.proofs.Relabel.{defined-frame, left-state, defining-kept, label-count}
+use Rattle.claim_reach.proofs.Names.{step-same}
+use Rattle.claim_reach.proofs.Keys.{Same, same-then, same-settle, use-keeps, same-judge-all}
+use Rattle.claim_reach.proofs.Relabel.{defined-frame, left-state, defining-kept}
 
 -- what was kept is kept where nothing of it changes
 pub kept-same : {ks : List Key} {walk : Back} {ms : List Meant} {a : AnalysisStack} (b c : AnalysisStack) → Same b c → Kept ks walk ms a b → Kept ks walk ms a c
@@ -83,7 +76,7 @@ pub record Finished (b c : AnalysisStack) : Type 0 where
   pub same : Same b last
   pub closed : Same (left-state (first-in-frame last) last) c
 
--- a step behind the end that only differs in such things
+-- a step after the end that only differs in such things
 pub finished-same : {b c d : AnalysisStack} → Same c d → Finished b c → Finished b d
 finished-same s f = record { last = f .last; same = f .same; closed = same-then (f .closed) s }
 

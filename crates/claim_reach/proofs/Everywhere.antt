@@ -1,19 +1,14 @@
 -- The walk through every output, by induction over the tree. Assumes nothing.
-use Prim.Native.Nat.{ℕ, zero, suc, _+_, _<_}
-use mathlib.Core.Bool.{Bool, true, false}
-use mathlib.Core.List.{List, [], _∷_, _++_}
+use Prim.Native.Nat.{ℕ}
 use native.Mathlib.Omega.{arith}
-use mathlib.Core.Path.{_≡_, refl, sym, ap, _∙_, subst}
-use lib.ListN.{length}
-use Rattle.rules.specs.Numbers.{TV, AR, LO, IM, FN, OB}
-use Rattle.rules.specs.Tree.{Expr, Exprs, Binds, Params, Heads}
-use Rattle.rules.specs.Tree.{identity, constant, variable, constants, array, plain, import, local, function, object}
-use Rattle.rules.specs.Tree.{no-exprs, _then_, no-binds, bind, no-params, param, param-or, no-heads, fixed, computed}
-use Rattle.rules.specs.FirstWalk.{Child, level, holder, Groups, expressions, an-identity, a-constant, a-variable, an-array, an-import, a-local, a-function, an-object, assertion, value-groups}
-use Rattle.rules.specs.Range.{Numbers, ExprFits, ExprsFit, BindsFit, ParamsFit, HeadsFit}
+use Rattle.rules.specs.Numbers.{TV, AR, IM}
+use Rattle.rules.specs.Tree.{Expr, Exprs, Binds, Params, Heads, identity, constant, variable, constants, array, plain, import, local, function, object, no-exprs, _then_, no-binds, bind, no-params, param, param-or, no-heads, fixed, computed}
+use Rattle.rules.specs.FirstWalk.{Child, Groups, a-constant, an-array, an-import}
+use Rattle.rules.specs.Range.{ExprFits, ExprsFit, BindsFit, ParamsFit, HeadsFit}
 use Rattle.rules.specs.State.{Limits}
+use Rattle.claim_scope.proofs.Accepted.{stands-numbers}
 use Rattle.claim_reach.proofs.Fitting.{ChildKeeps, GroupsKeep, next-keeps, plain-stands, values-keep, assertions-keep, expressions-keep}
-use Rattle.claim_reach.proofs.InRange.{stands-small, constant-fits, array-fits, constants-fit, import-fits, named-small, head-fits, head-named, heads-named, object-counts}
+use Rattle.claim_reach.proofs.InRange.{constant-fits, array-fits, constants-fit, import-fits, named-small, head-fits, head-named, heads-named, object-counts}
 use Rattle.claim_reach.proofs.Walking.{Walks, WalksBinds, bind-walks, no-binds-walk}
 use Rattle.claim_reach.proofs.WalkingForms.{WalksAll, WalksAssertions, identity-walks, variable-walks, constant-walks, constants-walks, import-walks, plain-walks, array-walks, none-walk, then-walk, assertions-walk}
 use Rattle.claim_reach.proofs.WalkingLocal.{local-walks}
@@ -28,14 +23,14 @@ module _ (L : Limits) where
 
     pub walks : (e : Expr) (c : Child) (levels p : ℕ) → ChildKeeps c → ExprFits e c levels p → Walks L e
     walks (identity place which span) c levels p k h = identity-walks L place which span
-    walks (constant place value) c levels p k h = constant-walks L place value (constant-fits value (stands-small c levels TV a-constant _ (h .1)))
+    walks (constant place value) c levels p k h = constant-walks L place value (constant-fits value (stands-numbers c levels TV a-constant _ (h .1)))
     walks (variable place name span) c levels p k h = variable-walks L place name span
-    walks (constants place values) c levels p k h = constants-walks L place values (constants-fit values (stands-small c levels AR an-array _ (h .1)) (h .2))
-    walks (array place items) c levels p k h = array-walks L place items (array-fits _ (stands-small c levels AR an-array _ (h .1))) (walks-all items _ _ _ (expressions-keep _) (h .3))
+    walks (constants place values) c levels p k h = constants-walks L place values (constants-fit values (stands-numbers c levels AR an-array _ (h .1)) (h .2))
+    walks (array place items) c levels p k h = array-walks L place items (array-fits _ (stands-numbers c levels AR an-array _ (h .1))) (walks-all items _ _ _ (expressions-keep _) (h .3))
     walks (plain place mark numbers children) c levels p k h =
         let s = plain-stands c levels mark numbers (h .1) (h .2) k in
         plain-walks L place mark numbers children (s .fits) (walks-all children _ _ _ (s .below) (h .3))
-    walks (import place which span literal path) c levels p k h = import-walks L place which span literal path (import-fits which span literal path (stands-small c levels IM an-import _ (h .1)))
+    walks (import place which span literal path) c levels p k h = import-walks L place which span literal path (import-fits which span literal path (stands-numbers c levels IM an-import _ (h .1)))
     walks (local place bs e) c levels p k h = local-walks L place bs e (walks-binds bs _ _ (h .2)) (walks e _ _ _ tt (h .3))
     walks (function place span ps e) c levels p k h = function-walks L place span ps e _ _ (h .3) (walks-params ps _ _ (h .2)) (walks e _ _ _ tt (h .3))
     walks (object place hs bs ts vs) c levels p k h =

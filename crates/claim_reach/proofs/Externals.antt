@@ -1,8 +1,7 @@
 -- The externals, as locals, mean what the root's scope says: of two of one name the later. Assumes nothing.
 use Prim.Native.Nat.{ℕ, suc}
-use mathlib.Core.Bool.{Bool, true, false}
 use mathlib.Core.List.{List, [], _∷_, _++_, append-assoc, append-nil}
-use mathlib.Core.Option.{Option, none, some}
+use mathlib.Core.Option.{Option, some}
 use mathlib.Core.Path.{_≡_, refl, sym, ap, _∙_, subst}
 use Rattle.rules.specs.Outcome.{choose}
 use Rattle.rules.specs.Numbers.{Name, same-name}

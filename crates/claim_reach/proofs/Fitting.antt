@@ -1,15 +1,14 @@
 -- Which records of the tree stand in the output with the same fields, and that the bytes tell them. Assumes nothing.
 use Prim.Native.Nat.{ℕ, zero, suc}
 use mathlib.Core.List.{List, [], _∷_}
-use mathlib.Core.Option.{Option, none, some, Option·some-injective}
+use mathlib.Core.Option.{some, Option·some-injective}
 use mathlib.Core.Path.{_≡_, refl, sym, _∙_, subst}
 use Rattle.rules.specs.Outcome.{choose}
 use Rattle.rules.specs.Numbers.{code, Mark, OX, UN, BI, AS, ER, AP, IX, IF, SC, AT, NA, PT}
 use Rattle.rules.specs.Records.{widths, width, fields, numbers-of, out-fields, no-tail}
 use Rattle.rules.specs.Tree.{Heads, no-heads, fixed, computed}
-use Rattle.rules.specs.FirstWalk.{Allowed, any-expression, function-only, object-only, Child, level, holder, argument, index-part, assertion, Groups, expressions}
-use Rattle.rules.specs.FirstWalk.{Form, an-identity, a-constant, a-variable, an-array, an-import, a-local, a-function, an-object, parts, rows, value-groups}
-use Rattle.rules.specs.Range.{RecordFits, PlainStands, next-of, next-child}
+use Rattle.rules.specs.FirstWalk.{Allowed, any-expression, function-only, object-only, Child, level, holder, argument, index-part, assertion, Groups, expressions, Form, an-identity, a-constant, a-variable, an-array, an-import, a-local, a-function, an-object, parts, rows, value-groups}
+use Rattle.rules.specs.Range.{PlainStands, next-of, next-child}
 use Rattle.rules.proofs.ReadRecords.{Every, row-found}
 use Rattle.claim_reach.specs.Decode.{out-marks, mark-among}
 use Rattle.claim_reach.proofs.Resolving.{none≢some}
@@ -53,7 +52,7 @@ rows-keep any-expression =
 rows-keep function-only = (tt, tt)
 rows-keep object-only = (tt, tt)
 
--- the children that keeping groups want keep, and what is wanted behind them does
+-- the children that keeping groups want keep, and what is wanted after them does
 pub next-keeps : (groups : Groups) (c : Child) (behind : Groups) → next-child groups ≡ some (c, behind) → GroupsKeep groups → ChildKeeps c × GroupsKeep behind
 unfolding next-child next-of GroupsKeep
 next-keeps [] c behind e h = absurd (none≢some e)

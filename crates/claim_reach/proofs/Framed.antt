@@ -1,30 +1,29 @@
 -- A defining frame around its specs and its body. Assumes nothing.
-use Prim.Native.Nat.{ℕ, zero, suc, _+_, _-_, _<_, _≤_}
-use mathlib.Core.Bool.{Bool, true, false, false≢true}
-use mathlib.Core.List.{List, [], _∷_, _++_, map, append-assoc, append-nil}
+use Prim.Native.Nat.{ℕ, _+_, _≤_}
+use mathlib.Core.Bool.{true, false, false≢true}
+use mathlib.Core.List.{List, [], _∷_, _++_, append-nil}
 use mathlib.Core.Option.{Option, none, some}
 use native.Mathlib.Omega.{arith}
 use mathlib.Core.Path.{_≡_, refl, sym, ap, ap₂, _∙_, subst}
-use lib.ListN.{length, getD, take, drop, length-append, List·getD-append}
+use lib.ListN.{length, getD, drop, length-append, List·getD-append}
 use lib.Seq.{drop-drop, drop-append-seam}
-use Rattle.rules.specs.Numbers.{Name}
-use Rattle.rules.specs.Tree.{Binding, at-record, external}
-use Rattle.rules.specs.Frames.{ClosureFrame, new-frame, top, beneath}
+use Rattle.rules.specs.Tree.{Binding, external}
+use Rattle.rules.specs.Frames.{ClosureFrame, new-frame, top}
 use Rattle.rules.specs.State.{AnalysisStack, with-frames}
 use Rattle.rules.specs.Scoping.{first-in-frame}
 use Rattle.rules.specs.Walk.{Place, deeper}
 use Rattle.claim_scope.specs.Scope.{Scope, Meant, under}
 use Rattle.claim_reach.specs.Decode.{_>>=_}
-use Rattle.claim_reach.specs.Reach.{View, Trail, Reached, open-defining}
-use Rattle.claim_reach.proofs.Resolving.{Grown, Stacked, on-top, Good, no-more, one-more}
-use Rattle.claim_reach.proofs.Promise.{Key, key, keys, labels, labelled, Inside, Agree, Ready, Back, Kept, Step, kept-then, both-back}
+use Rattle.claim_reach.specs.Reach.{open-defining}
+use Rattle.claim_reach.proofs.Resolving.{Stacked, on-top, Good, no-more, one-more}
+use Rattle.claim_reach.proofs.Promise.{Key, labels, labelled, Inside, Agree, Ready, Back, Kept, Step, kept-then, both-back, label-count}
 use Rattle.claim_reach.proofs.Frames.{as-many}
 use Rattle.claim_reach.proofs.Keys.{Same}
-use Rattle.claim_reach.proofs.Relabel.{labels-append, label-count, alike-back, alike-keys, good-alike, defined-frame}
+use Rattle.claim_reach.proofs.Relabel.{labels-append, alike-back, alike-keys, good-alike, defined-frame}
 use Rattle.claim_reach.proofs.Defining.{Names, names-in, Scoped}
 use Rattle.claim_reach.proofs.DefiningSteps.{Holding, Defines}
 use Rattle.claim_reach.proofs.Ending.{kept-same, Finished, finished-calm, finished-kept}
-use Rattle.claim_reach.proofs.Specs.{Specs, SpecsKept}
+use Rattle.claim_reach.proofs.Specs.{Specs}
 
 -- The scope inside
 

@@ -1,4 +1,4 @@
--- The record that stands behind a defining frame. Assumes nothing.
+-- The record that stands after a defining frame. Assumes nothing.
 use Prim.Native.Nat.{ℕ, _≤_}
 use mathlib.Core.List.{List}
 use mathlib.Core.Option.{some}
@@ -15,13 +15,12 @@ use Rattle.claim_scope.specs.Scope.{Scope, Meant}
 use Rattle.claim_reach.specs.Decode.{_>>=_}
 use Rattle.claim_reach.specs.Reach.{expect, open-defining}
 use Rattle.claim_reach.proofs.Decoding.{OutFits}
-use Rattle.claim_reach.proofs.Promise.{Key, labels, Back, Step}
+use Rattle.claim_reach.proofs.Promise.{Key, labels, Back, Step, label-count}
 use Rattle.claim_reach.proofs.Frames.{emit-is}
-use Rattle.claim_reach.proofs.Relabel.{label-count}
 use Rattle.claim_reach.proofs.Ending.{kept-emit}
 use Rattle.claim_reach.proofs.Framed.{Framed}
 
--- a walk in a frame with these slots, behind a record of which only the mark is read
+-- a walk in a frame with these slots, after a record of which only the mark is read
 abbrev pub record-back : Mark → List Binding → Back → Back
 record-back m slots walk v rs = expect m rs >>= λ x. open-defining slots v (x .1) >>= λ y. walk (y .0) (y .1)
 

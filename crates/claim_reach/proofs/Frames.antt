@@ -1,35 +1,34 @@
 -- A using frame around a step. Assumes nothing.
-use Prim.Native.Nat.{ℕ, zero, suc, _+_, _*_, _-_, _<_, _≤_}
-use mathlib.Core.Bool.{Bool, true, false}
-use mathlib.Core.List.{List, [], _∷_, _++_, map, reverse, append-assoc, append-nil}
-use mathlib.Core.Option.{Option, none, some}
+use Prim.Native.Nat.{ℕ, _+_}
+use mathlib.Core.Bool.{Bool, false}
+use mathlib.Core.List.{List, [], _∷_, _++_, reverse, append-assoc, append-nil}
+use mathlib.Core.Option.{some}
 use native.Mathlib.Omega.{arith}
 use mathlib.Core.Path.{_≡_, refl, sym, ap, _∙_, subst}
-use lib.ListN.{length, getD, take, drop, length-map}
-use lib.Dec.{eqb}
+use lib.ListN.{length, getD, drop, length-map}
 use borrow.Author.Tests.{eq-eqb}
-use Rattle.rules.specs.Outcome.{Outcome, ok, refuse, need, choose, given}
-use Rattle.rules.specs.Numbers.{Record, Mark, SH, code, record-bytes, records-bytes}
-use Rattle.rules.specs.Tree.{Binding, at-record, external}
-use Rattle.rules.specs.Frames.{Capture, ClosureFrame, new-frame, no-frame, top, beneath, defining}
+use Rattle.rules.specs.Outcome.{choose}
+use Rattle.rules.specs.Numbers.{Record, Mark, SH, record-bytes, records-bytes}
+use Rattle.rules.specs.Tree.{Binding}
+use Rattle.rules.specs.Frames.{ClosureFrame, new-frame, no-frame, top, beneath, defining}
 use Rattle.rules.specs.State.{Limits, AnalysisStack, with-frames, with-out, with-sink}
 use Rattle.rules.specs.Writing.{shape-numbers, emit, close-frame}
 use Rattle.rules.specs.Walk.{Place}
-use Rattle.rules.proofs.After.{After, fine, refused, after-bind, after-need}
+use Rattle.rules.proofs.After.{After, fine, after-bind, after-need}
 use Rattle.claim_scope.specs.Scope.{Scope, Meant}
 use Rattle.claim_reach.specs.Decode.{_>>=_}
-use Rattle.claim_reach.specs.Reach.{View, Trail, Reached, sources, expect, check, open-using, open-defining}
-use Rattle.claim_reach.proofs.Resolving.{Grown, Stacked, on-top, Later, Sourced, no-more, Good, one-more, view-of, slots-of, taken-of}
+use Rattle.claim_reach.specs.Reach.{View, Trail, sources, check, open-using, open-defining}
+use Rattle.claim_reach.proofs.Resolving.{Stacked, on-top, no-more, one-more, slots-of, taken-of}
 use Rattle.claim_reach.proofs.Decoding.{OutFits, AllFit, fit-append, records-append, record-one}
 use Rattle.claim_reach.proofs.Closing.{Shut, shuts}
-use Rattle.claim_reach.proofs.Promise.{Key, keys, labels, Agree, Ready, Back, Kept, Step, expect-first, back}
+use Rattle.claim_reach.proofs.Promise.{Key, keys, labels, Ready, Back, Kept, Step, expect-first, back}
 
 -- what writing a record does
 pub emit-is : (L : Limits) (p : ℕ) (m : Mark) (ns : List ℕ) (b : AnalysisStack) → After (λ (c : AnalysisStack). c ≡ with-out (b .sink .out ++ record-bytes m ns) b) (emit L p m ns b)
 unfolding emit
 emit-is L p m ns b = after-need _ 9 p _ λ _. fine refl
 
--- one more record behind others
+-- one more record after others
 pub out-more : (s : List ℕ) (out : List ℕ) (rs : List Record) (m : Mark) (ns : List ℕ) → s ≡ out ++ records-bytes rs → s ++ record-bytes m ns ≡ out ++ records-bytes (rs ++ ((m, ns) ∷ []))
 out-more s out rs m ns e =
     ap (λ (s : List ℕ). s ++ record-bytes m ns) e ∙ append-assoc out (records-bytes rs) (record-bytes m ns)

@@ -1,8 +1,8 @@
 -- What is reached over the records of an output is reached over its bytes. Assumes nothing.
 use Prim.Native.Nat.{ℕ}
 use mathlib.Core.List.{List, reverse}
-use mathlib.Core.Option.{Option, some}
-use mathlib.Core.Path.{_≡_, refl}
+use mathlib.Core.Option.{some}
+use mathlib.Core.Path.{_≡_}
 use Rattle.rules.specs.Numbers.{Record, records-bytes}
 use Rattle.rules.specs.Tree.{Tree}
 use Rattle.claim_scope.specs.Scope.{Meant}

@@ -14,22 +14,21 @@ use Rattle.rules.specs.Numbers.{Name, Record, Mark, LS, code, same-name, same-b
 use Rattle.rules.specs.Records.{Span, out-fields, widths, width}
 use Rattle.rules.specs.Range.{Numbers, RecordFits, PlainStands, ExprFits}
 use Rattle.rules.specs.FirstWalk.{level, any-expression, Form, rows, row-of}
-use Rattle.rules.specs.Tree.{Binding, at-record, external, Expr, Params, identity, constant, variable, constants, array, plain, import, local, function, object}
+use Rattle.rules.specs.Tree.{Binding, at-record, external, Expr, Params, identity, constant, variable, constants, array, plain, import, local, function, object, no-binds, bind, no-params, param, param-or}
 use Rattle.rules.specs.Locals.{newest}
-use Rattle.rules.specs.Tree.{no-binds, bind, no-params, param, param-or}
 use Rattle.rules.specs.Frames.{LSlot, capture-slot, ClosureFrame, Resolved, defining, holds, slot-in, resolve-at, resolve-to-slot}
 use Rattle.rules.specs.State.{Limits, AnalysisStack, with-frames, with-locals, with-object-use, with-taint, with-out, with-sink, written}
 use Rattle.rules.specs.Writing.{slot-mark, slot-number}
 use Rattle.rules.specs.Scoping.{touch-local, touch-object, emit-slot}
 use Rattle.rules.specs.Walk.{Place, Naming, unnamed, identity-local, first-has-default, is-identity, is-empty, use-identity, use-local, analyze}
-use Rattle.rules.proofs.After.{After, fine, after-ok, after-weaken, after-bind, after-need, after-choose, after-given, both-passed}
+use Rattle.rules.proofs.After.{After, fine, after-ok, after-weaken, after-bind, after-need, after-choose, after-given, both-passed, after-self}
 use Rattle.claim_scope.specs.Scope.{Meant}
 use Rattle.claim_reach.specs.Lexical.{is-name, is-last, gives-argument}
 use Rattle.claim_reach.specs.Decode.{_>>=_, mark-among, out-marks, out-records}
 use Rattle.claim_reach.specs.Reach.{View, expect, leaf, is-iy, param-slots, reach-identity, reach}
 use Rattle.claim_reach.proofs.Resolving.{both, none≢some, missed, Grown, grown, view-of}
 use Rattle.claim_reach.proofs.Decoding.{AllFit, records-decoded, record-one, fits-fields}
-use Rattle.claim_reach.proofs.Promise.{Key, keys, labels, named, newest-key, Inside, Back, Kept, after-self}
+use Rattle.claim_reach.proofs.Promise.{Key, keys, labels, named, newest-key, Inside, Back, Kept}
 use Rattle.claim_reach.proofs.Frames.{emit-is, as-many}
 use Rattle.claim_reach.proofs.Names.{newest-as, newest-inside, found-inside, bad-errors}
 use Rattle.claim_reach.proofs.Relabel.{defined-frame}

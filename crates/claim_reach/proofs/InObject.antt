@@ -1,22 +1,22 @@
 -- The scope inside an object: self is its own `this`, $ that of the outermost. Assumes nothing.
-use Prim.Native.Nat.{ℕ, zero, suc, _+_, _<_, _≤_}
-use mathlib.Core.List.{List, [], _∷_, _++_}
+use Prim.Native.Nat.{ℕ, _+_}
+use mathlib.Core.List.{List, _∷_, _++_}
 use mathlib.Core.Option.{Option, none, some}
 use native.Mathlib.Omega.{arith}
-use mathlib.Core.Path.{_≡_, refl, sym, ap, ap₂, _∙_}
+use mathlib.Core.Path.{_≡_, sym, ap, ap₂, _∙_}
 use lib.ListN.{length, getD, length-append}
 use lib.Seq.{getD-drop, drop-append-seam}
 use Rattle.rules.specs.Outcome.{given}
 use Rattle.rules.specs.Tree.{Binding, at-record, external}
-use Rattle.rules.specs.Walk
 use Rattle.rules.specs.Walk.{Place}
-use Rattle.claim_scope.specs.Scope
 use Rattle.claim_scope.specs.Scope.{Scope, under}
 use Rattle.claim_reach.proofs.Resolving.{none≢some}
-use Rattle.claim_reach.proofs.Promise.{Key, labels, labelled, Inside, Agree}
-use Rattle.claim_reach.proofs.Relabel.{labels-append, label-count}
+use Rattle.claim_reach.proofs.Promise.{Key, labels, labelled, Inside, Agree, label-count}
+use Rattle.claim_reach.proofs.Relabel.{labels-append}
 use Rattle.claim_reach.proofs.Defining.{Names, Scoped}
 use Rattle.claim_reach.proofs.Framed.{labelled-more, inside-more}
+use Rattle.rules.specs.Walk
+use Rattle.claim_scope.specs.Scope
 
 this-label : (ks : List Key) (k : Key) (new : List Key) (id : ℕ) → id ≡ length ks → labelled (ks ++ (k ∷ new)) (some id) ≡ some (k .0)
 unfolding labelled

@@ -7,24 +7,20 @@ use native.Mathlib.Omega.{arith}
 use mathlib.Core.Path.{_≡_, refl, sym, subst}
 use lib.ListN.{length}
 use Rattle.rules.specs.Outcome.{choose}
-use Rattle.rules.specs.Numbers.{Mark, TV, AR, IM, OB, FH, AC, code, bit}
+use Rattle.rules.specs.Numbers.{TV, AR, IM, OB, FH, AC, code, bit}
 use Rattle.rules.specs.Records.{Span, span-numbers, out-fields, widths, width}
 use Rattle.rules.specs.Tree.{Exprs, Binds, Heads, Head, no-exprs, _then_, no-heads, fixed, computed, count-exprs, count-binds, count-heads}
 use Rattle.rules.specs.Encode.{head-numbers}
-use Rattle.rules.specs.FirstWalk.{Child, level, holder, Groups, Form, an-object, value-groups}
+use Rattle.rules.specs.FirstWalk.{Child, Groups, an-object, value-groups}
 use Rattle.rules.specs.Range.{Numbers, Stands, next-of, next-child, ExprsFit, HeadsFit}
-use Rattle.rules.specs.Walk.{Naming, naming-numbers, head-namings}
+use Rattle.rules.specs.Walk.{naming-numbers, head-namings}
 use Rattle.rules.proofs.After.{chosen}
+use Rattle.rules.proofs.Accepted.{total}
+use Rattle.claim_scope.proofs.Accepted.{stands-numbers}
 use Rattle.claim_reach.specs.Decode.{mark-among, out-marks}
 use Rattle.claim_reach.proofs.Decoding.{OutFits, fits-fields, fits-constants}
 use Rattle.claim_reach.proofs.Walking.{NamingFits, unnamed-fits}
 use Rattle.claim_reach.proofs.WalkingObject.{NamingsFit}
-
--- the record's own numbers are in range
-pub stands-small : (c : Child) (levels : ℕ) (m : Mark) (form : Form) (ns : List ℕ) → Stands c levels m form ns → Numbers ns
-unfolding Stands
-stands-small (level a) levels m form ns h = h .1 .numbers
-stands-small (holder mark n) levels m form ns h = absurd h
 
 pub constant-fits : (value : ℕ) → Numbers (value ∷ []) → OutFits (TV, value ∷ [])
 unfolding mark-among out-marks code choose out-fields widths width
@@ -66,12 +62,7 @@ heads-named (computed place head name hs) levels p h = (chosen NamingFits _ _ _ 
 
 -- An object's counts
 
--- how many children groups want
-abbrev total : Groups → ℕ
-total [] = 0
-total (g ∷ gs) = g .0 + total gs
-
--- that is none, or one more than those behind the next
+-- the children that groups want: none, or one more than those after the next
 unfoldable Counted : Option (Child × Groups) → ℕ → Type 0
 Counted none n = n ≡ 0
 Counted (some x) n = n ≡ suc (total (x .1))
@@ -99,5 +90,5 @@ pub object-counts : (c : Child) (levels : ℕ) (hs : Heads) (bs : Binds) (ts vs 
     → Numbers (count-exprs ts ∷ count-exprs vs ∷ [])
 unfolding Numbers
 object-counts c levels hs bs ts vs left p h fit =
-    let small = stands-small c levels OB an-object (count-binds bs ∷ count-exprs ts ∷ count-heads hs ∷ []) h in
+    let small = stands-numbers c levels OB an-object (count-binds bs ∷ count-exprs ts ∷ count-heads hs ∷ []) h in
     (small .1 .0, (omega (arith, small .1 .1 .0, exprs-counted vs (value-groups hs) left p fit, values-total hs), tt))

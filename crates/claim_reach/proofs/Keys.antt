@@ -1,16 +1,14 @@
 -- Settling, judging and keeping references change no local's key. Assumes nothing.
-use Prim.Native.Nat.{ℕ, zero, suc, _+_}
-use mathlib.Core.Bool.{Bool, true, false, _||_}
-use mathlib.Core.List.{List, [], _∷_, _++_, map, reverse}
-use mathlib.Core.Option.{Option, none, some}
-use mathlib.Core.Path.{_≡_, refl, sym, ap, ap₂, _∙_}
-use lib.ListN.{length, set, take, drop}
-use Rattle.rules.specs.Outcome.{Outcome, ok, refuse, need, choose, given}
+use Prim.Native.Nat.{ℕ, zero, suc}
+use mathlib.Core.Bool.{or-false}
+use mathlib.Core.List.{List, [], _∷_, _++_}
+use mathlib.Core.Path.{_≡_, refl, ap, _∙_}
+use lib.ListN.{take, drop}
 use Rattle.rules.specs.Numbers.{Name}
 use Rattle.rules.specs.Records.{Span}
-use Rattle.rules.specs.Locals.{LocalDefinition, local-at, with-analysis, with-used-at-depth, with-scratch-referenced, without-notes}
+use Rattle.rules.specs.Locals.{LocalDefinition, with-analysis, with-used-at-depth, with-scratch-referenced, without-notes}
 use Rattle.rules.specs.Settling.{Reference, Round, Loop, propagate-analysis, propagate-use, one-round, Settled, settle, settled}
-use Rattle.rules.specs.State.{Limits, AnalysisStack, with-locals, with-rounds, with-sink, with-references, with-taint}
+use Rattle.rules.specs.State.{Limits, AnalysisStack, with-locals, with-rounds, with-sink, with-references}
 use Rattle.rules.specs.Writing.{warning, is-error, report}
 use Rattle.rules.specs.Scoping.{settle-frame, judge, judge-all, set-analysis, keep-references, first-in-frame, frame-locals}
 use Rattle.rules.proofs.After.{After, fine, after-weaken, after-bind, after-need, after-choose, after-given, chosen}
@@ -63,10 +61,6 @@ module _ (loop : Loop) (keeps : KeepsKeys loop) where
   unfolding settle-frame with-rounds with-locals with-sink settled
   same-settle kept before st = record { same-keys = settle-keeps (suc kept) (drop before (st .references)) (st .locals); same-frames = refl; same-out = refl; same-errored = refl }
 
-or-false : (b : Bool) → (b || false) ≡ b
-or-false true = refl
-or-false false = refl
-
 module _ (L : Limits) where
   pub same-warning : (p c : ℕ) (name : Name) (span : Span) (st : AnalysisStack) → After (Same st) (report L p warning c name span st)
   unfolding report with-sink is-error
@@ -83,10 +77,6 @@ module _ (L : Limits) where
   same-judge-all p [] st = fine (same-none st)
   same-judge-all p (l ∷ ls) st =
       after-bind _ (after-given _ _ _ (λ _. fine (same-none st)) (λ name _. same-judge p name l st)) λ st₁ h. after-weaken (same-judge-all p ls st₁) λ st₂ k. same-then h k
-
-  keys-append : (xs ys : List LocalDefinition) → keys (xs ++ ys) ≡ keys xs ++ keys ys
-  keys-append [] ys = refl
-  keys-append (x ∷ xs) ys = ap (λ (ks : List Key). key x ∷ ks) (keys-append xs ys)
 
   keys-notes : (ls : List LocalDefinition) → keys (without-notes ls) ≡ keys ls
   unfolding without-notes with-scratch-referenced

@@ -1,33 +1,32 @@
 -- Steps that use a name, self, super, $ or an import, and what never changes of a local. Assumes nothing.
-use Prim.Native.Nat.{ℕ, zero, suc, _+_, _<_, _≤_}
-use mathlib.Core.Bool.{Bool, true, false, _||_, false≢true}
-use mathlib.Core.List.{List, [], _∷_, _++_, map, reverse, append-nil}
-use mathlib.Core.Option.{Option, none, some, Option·some-injective}
+use Prim.Native.Nat.{ℕ, zero, suc, _+_, _<_}
+use mathlib.Core.Bool.{true, false, false≢true, or-true}
+use mathlib.Core.List.{List, [], _∷_, append-nil}
+use mathlib.Core.Option.{Option, none, some}
 use native.Mathlib.Omega.{arith}
 use mathlib.Core.Path.{_≡_, refl, sym, ap, _∙_, subst}
 use lib.ListN.{length, getD, set}
-use lib.Dec.{eqb}
 use borrow.Author.Tests.{eqb-true}
-use Rattle.rules.specs.Outcome.{Outcome, ok, refuse, need, choose, given}
-use Rattle.rules.specs.Numbers.{Name, Mark, SU, IM, BL, code, same-name, record-bytes, records-bytes}
-use Rattle.rules.specs.Records.{Span, span-numbers, out-fields, widths, width, no-tail}
+use Rattle.rules.specs.Outcome.{choose, given}
+use Rattle.rules.specs.Numbers.{Name, Mark, SU, code, same-name, records-bytes}
+use Rattle.rules.specs.Records.{Span, out-fields, widths, width}
 use Rattle.rules.specs.Range.{Numbers}
 use Rattle.rules.specs.Tree.{Binding, external}
 use Rattle.rules.specs.Locals.{LocalDefinition, local-at, no-local, new-local, newest, has-name, use-at, note-reference, with-used-by-sibling, with-used-at-depth, with-scratch-referenced}
-use Rattle.rules.specs.State.{Limits, ObjectUse, AnalysisStack, with-frames, with-out, with-sink, with-locals, with-taint, with-object-use}
-use Rattle.rules.specs.Writing.{Level, error, is-error, emit, report, bad-place}
+use Rattle.rules.specs.State.{Limits, ObjectUse, AnalysisStack, with-out, with-sink, with-locals, with-taint, with-object-use}
+use Rattle.rules.specs.Writing.{is-error, emit, report, bad-place}
 use Rattle.rules.specs.Scoping.{touch-local, touch-object, emit-slot}
-use Rattle.rules.specs.Walk.{Place, identity-local, mark-used, use-local, use-identity, use-import}
-use Rattle.rules.proofs.After.{After, fine, refused, after-ok, after-weaken, after-bind, after-need, after-choose, after-given, chosen}
+use Rattle.rules.specs.Walk.{Place, identity-local, mark-used, use-local, use-identity}
+use Rattle.rules.proofs.After.{After, fine, after-weaken, after-bind, after-need, after-choose, after-given, chosen}
 use Rattle.claim_scope.specs.Scope.{Scope, Meant, meaning, identity-means}
 use Rattle.claim_reach.specs.Lexical.{identity-read}
 use Rattle.claim_reach.specs.Decode.{_>>=_, mark-among, out-marks}
-use Rattle.claim_reach.specs.Reach.{View, Trail, Reached, expect, slot-read, leaf, reach-identity}
-use Rattle.claim_reach.proofs.Resolving.{none≢some, grown-refl}
+use Rattle.claim_reach.specs.Reach.{Trail, Reached, expect, slot-read, leaf, reach-identity}
+use Rattle.claim_reach.proofs.Resolving.{grown-refl}
 use Rattle.claim_reach.proofs.Decoding.{OutFits, AllFit, fits-fields}
-use Rattle.claim_reach.proofs.Promise.{Key, key, keys, labels, named, newest-key, labelled, Inside, Agree, Ready, Back, Kept, Step, step-by, step-emit}
+use Rattle.claim_reach.proofs.Promise.{Key, key, keys, labels, named, newest-key, labelled, Inside, Agree, Back, Kept, Step, step-by, step-emit}
 use Rattle.claim_reach.proofs.Frames.{as-many}
-use Rattle.claim_reach.proofs.Using.{kept-from, SlotWritten, slot-written}
+use Rattle.claim_reach.proofs.Using.{kept-from, slot-written}
 
 -- Keys
 
@@ -87,10 +86,6 @@ step-same {ks = ks} a b same-frames same-out same-errored e = record {
     walked = λ v rest l. refl;
   };
 }
-
-pub or-true : (b : Bool) → (b || true) ≡ true
-or-true true = refl
-or-true false = refl
 
 kept-means : {ks : List Key} {walk : Back} {ms ns : List Meant} {a b : AnalysisStack} → ms ≡ ns → Kept ks walk ms a b → Kept ks walk ns a b
 kept-means {ks = ks} {walk = walk} {a = a} {b = b} e k = subst (λ (ms : List Meant). Kept ks walk ms a b) e k

@@ -1,28 +1,25 @@
 -- What a step of the analysis promises: the records that it wrote can be walked back, in every later view, and reach what was meant. Assumes nothing.
-use Prim.Native.Nat.{ℕ, zero, suc, _+_, _*_, _-_, _<_, _≤_}
-use mathlib.Core.Bool.{Bool, true, false, _||_}
+use Prim.Native.Nat.{ℕ, zero, suc, _<_}
+use mathlib.Core.Bool.{Bool, false}
 use mathlib.Core.List.{List, [], _∷_, _++_, map, reverse, reverse-append, append-assoc, append-nil}
 use mathlib.Core.Option.{Option, none, some}
-use native.Mathlib.Omega.{arith}
 use mathlib.Core.Path.{_≡_, refl, sym, ap, _∙_, subst}
-use lib.ListN.{length, getElem?, getD, take, drop, length-map}
-use lib.Dec.{eqb}
+use lib.ListN.{length, getD, length-map}
 use borrow.Author.Tests.{eq-eqb}
-use Rattle.rules.specs.Outcome.{Outcome, ok, refuse, need, choose, given}
-use Rattle.rules.specs.Numbers.{Name, Record, Mark, SH, code, record-bytes, records-bytes, same-name}
-use Rattle.rules.specs.Range.{Numbers}
-use Rattle.rules.specs.Tree.{Binding, at-record, external}
+use Rattle.rules.specs.Outcome.{choose}
+use Rattle.rules.specs.Numbers.{Name, Record, Mark, code, record-bytes, records-bytes, same-name}
+use Rattle.rules.specs.Tree.{Binding, external}
 use Rattle.rules.specs.Locals.{LocalDefinition}
-use Rattle.rules.specs.Frames.{LSlot, local-slot, capture-slot, Capture, ClosureFrame, new-frame, no-frame, top, beneath, defining}
-use Rattle.rules.specs.State.{Limits, AnalysisStack, with-frames, with-out, with-sink}
-use Rattle.rules.specs.Writing.{slot-number, pair-of, pairs-of, shape-numbers, emit, close-frame}
+use Rattle.rules.specs.Frames.{Capture, ClosureFrame}
+use Rattle.rules.specs.State.{Limits, AnalysisStack, with-out, with-sink}
+use Rattle.rules.specs.Writing.{emit}
 use Rattle.rules.specs.Walk.{Place}
-use Rattle.rules.proofs.After.{After, fine, refused, after-ok, after-weaken, after-bind, after-need}
+use Rattle.rules.proofs.After.{After, fine, after-need}
 use Rattle.claim_scope.specs.Scope.{Scope, Meant, meaning}
 use Rattle.claim_reach.specs.Decode.{_>>=_}
-use Rattle.claim_reach.specs.Reach.{View, Trail, Reached, sources, expect, check, open-using, open-defining, leaf}
-use Rattle.claim_reach.proofs.Resolving.{Grown, all-grown, grown, grown-refl, Stacked, bottom, on-top, Later, seen, seen-later, Sourced, no-more, also, Good, none-open, one-more, view-of, slots-of, taken-of, grown-later, sourced-later, shape-opens}
-use Rattle.claim_reach.proofs.Decoding.{OutFits, AllFit, fit-append, records-append, record-one, fits-shape}
+use Rattle.claim_reach.specs.Reach.{View, Trail, Reached, expect}
+use Rattle.claim_reach.proofs.Resolving.{Grown, all-grown, grown, grown-refl, Stacked, Later, Good, view-of, grown-later}
+use Rattle.claim_reach.proofs.Decoding.{OutFits, AllFit, fit-append, records-append, record-one}
 
 -- what of a local never changes: what it stands for, and its name
 abbrev pub Key : Type 0
@@ -36,6 +33,13 @@ keys ls = map key ls
 
 abbrev pub labels : List Key → List Binding
 labels ks = map (λ (k : Key). k .0) ks
+
+pub keys-append : (xs ys : List LocalDefinition) → keys (xs ++ ys) ≡ keys xs ++ keys ys
+keys-append [] ys = refl
+keys-append (x ∷ xs) ys = ap (λ (ks : List Key). key x ∷ ks) (keys-append xs ys)
+
+pub label-count : (ks : List Key) → length (labels ks) ≡ length ks
+label-count ks = length-map ks (λ (k : Key). k .0)
 
 unfoldable pub named : Name → Option Name → Bool
 named n none = false
@@ -85,16 +89,6 @@ pub record Kept (ks : List Key) (walk : Back) (ms : List Meant) (a b : AnalysisS
 pub record Step (ks : List Key) (h : Place) (sc : Scope) (walk : Back) (ms : List Meant) (a b : AnalysisStack) : Type 0 where
   pub calm : b .sink .errored ≡ false → a .sink .errored ≡ false
   pub kept : b .sink .errored ≡ false → Agree ks h sc → Ready ks a → Kept ks walk ms a b
-
--- which answer it is
-pub after-self : {A : Type 0} (o : Outcome A) → After (λ a. o ≡ ok a) o
-after-self (ok a) = fine refl
-after-self (refuse number place) = refused
-
--- what holds under a premise holds, under it, of the answer
-pub after-under : {A : Type 0} {X : Type 0} {Q : A → Type 0} (o : Outcome A) → (X → After Q o) → After (λ a. X → Q a) o
-after-under (ok a) k = fine λ x. after-ok (k x) refl
-after-under (refuse number place) k = refused
 
 -- Growing
 
@@ -187,7 +181,7 @@ unfolding expect choose
 expect-first m ns rs = rw (eq-eqb (code m) (code m) refl) refl
 
 module _ (L : Limits) where
-  -- behind a step, a record of its own: the walk expects it, does what it does with its numbers, and goes on
+  -- after a step, a record of its own: the walk expects it, does what it does with its numbers, and goes on
   pub step-emit : {ks : List Key} {h : Place} {sc : Scope} {walk : Back} {ms : List Meant} {a : AnalysisStack} (p : ℕ) (m : Mark) (ns : List ℕ) (b : AnalysisStack)
       (with-numbers : List ℕ → Option (Unit {0})) → OutFits (m, ns) → with-numbers ns ≡ some tt
       → Step ks h sc walk ms a b → After (Step ks h sc (λ v rs. expect m rs >>= λ x. with-numbers (x .0) >>= λ _. walk v (x .1)) ms a) (emit L p m ns b)

@@ -1,26 +1,26 @@
 -- Frames are as good whether or not there are newer locals, and a defining frame that closes opens again with its names. Assumes nothing.
-use Prim.Native.Nat.{ℕ, zero, suc, _+_, _*_, _-_, _<_, _≤_}
-use mathlib.Core.Bool.{Bool, true, false}
-use mathlib.Core.List.{List, [], _∷_, _++_, map, reverse, append-assoc, append-nil}
-use mathlib.Core.Option.{Option, none, some}
+use Prim.Native.Nat.{ℕ, zero, suc, _+_, _<_, _≤_}
+use mathlib.Core.Bool.{Bool, true}
+use mathlib.Core.List.{List, [], _∷_, _++_, reverse, append-nil}
+use mathlib.Core.Option.{Option, some}
 use native.Mathlib.Omega.{arith}
 use mathlib.Core.Path.{_≡_, refl, sym, ap, ap₂, _∙_, subst}
-use lib.ListN.{length, getD, take, drop, length-map, List·getD-append}
+use lib.ListN.{length, take, drop, List·getD-append}
 use lib.Seq.{take-append-seam}
-use Rattle.rules.specs.Outcome.{Outcome, ok, refuse, need, choose, given}
-use Rattle.rules.specs.Numbers.{Record, Mark, SH, code, record-bytes, records-bytes}
-use Rattle.rules.specs.Tree.{Binding, at-record, external}
+use Rattle.rules.specs.Outcome.{choose}
+use Rattle.rules.specs.Numbers.{SH, records-bytes}
+use Rattle.rules.specs.Tree.{Binding, external}
 use Rattle.rules.specs.Locals.{LocalDefinition}
 use Rattle.rules.specs.Frames.{Capture, ClosureFrame, new-frame, no-frame, top, beneath, defining}
-use Rattle.rules.specs.State.{Limits, AnalysisStack, with-frames, with-locals, with-out, with-sink}
+use Rattle.rules.specs.State.{AnalysisStack, with-frames, with-locals, with-out, with-sink}
 use Rattle.rules.specs.Writing.{shape-numbers}
-use Rattle.claim_scope.specs.Scope.{Scope, Meant}
+use Rattle.claim_scope.specs.Scope.{Meant}
 use Rattle.claim_reach.specs.Decode.{_>>=_}
-use Rattle.claim_reach.specs.Reach.{View, Trail, Reached, sources, open-defining}
-use Rattle.claim_reach.proofs.Resolving.{Grown, grown, Stacked, bottom, on-top, Later, Sourced, no-more, also, Good, none-open, one-more, view-of, slots-of, taken-of, label-at, home-within}
+use Rattle.claim_reach.specs.Reach.{View, open-defining}
+use Rattle.claim_reach.proofs.Resolving.{Grown, Stacked, bottom, on-top, Later, Sourced, no-more, also, Good, none-open, one-more, view-of, slots-of, taken-of, label-at, home-within}
 use Rattle.claim_reach.proofs.Closing.{Shut, shuts}
-use Rattle.claim_reach.proofs.Promise.{Key, key, keys, labels, Ready, Back, Kept, back}
-use Rattle.claim_reach.proofs.Frames.{out-more, fit-more, defining-opens, as-many, closed-state}
+use Rattle.claim_reach.proofs.Promise.{Key, key, keys, labels, Ready, Back, Kept, back, label-count}
+use Rattle.claim_reach.proofs.Frames.{out-more, fit-more, defining-opens, closed-state}
 
 -- these lists of labels are the same for the first n locals
 pub record Alike (n : ℕ) (A B : List Binding) : Type 0 where
@@ -77,9 +77,6 @@ module _ {A B : List Binding} where
 pub labels-append : (ks new : List Key) → labels (ks ++ new) ≡ labels ks ++ labels new
 labels-append [] new = refl
 labels-append (k ∷ ks) new = ap (λ (bs : List Binding). k .0 ∷ bs) (labels-append ks new)
-
-pub label-count : (ks : List Key) → length (labels ks) ≡ length ks
-label-count ks = length-map ks (λ (k : Key). k .0)
 
 own-slots : {A : Type 0} (xs ys : List A) → take (length ys) (drop (length xs) (xs ++ ys)) ≡ ys
 own-slots [] [] = refl

@@ -9,13 +9,13 @@ use lib.ListN.{length, getElem?, getD, take, drop, length-drop, length-append}
 use lib.Dec.{eqb, leb, ltb, T, leb→le, ltb→lt, eqb→eq}
 use lib.Seq.{getD-drop}
 use borrow.Author.Tests.{ltb-true, leb-false, lt-ltb}
-use Rattle.rules.specs.Outcome.{Outcome, ok, refuse, _>>=_, need, choose, given}
-use Rattle.rules.specs.Tree.{Binding, at-record, external}
-use Rattle.rules.specs.Frames.{LSlot, local-slot, capture-slot, Capture, ClosureFrame, new-frame, no-frame, top, beneath, defining, holds, slot-in, capture-of, with-capture, Resolved, resolve-at}
+use Rattle.rules.specs.Outcome.{_>>=_, choose}
+use Rattle.rules.specs.Tree.{Binding, external}
+use Rattle.rules.specs.Frames.{LSlot, local-slot, capture-slot, Capture, ClosureFrame, new-frame, no-frame, top, defining, holds, slot-in, capture-of, with-capture, Resolved, resolve-at}
 use Rattle.rules.specs.Writing.{slot-number, pair-of, pairs-of}
 use Rattle.rules.proofs.After.{After, fine, after-bind, after-need, after-choose, after-given}
-use Rattle.claim_reach.specs.Decode
 use Rattle.claim_reach.specs.Reach.{View, source, sources}
+use Rattle.claim_reach.specs.Decode
 
 pub both : (a b : Bool) → (a && b) ≡ true → T a × T b
 both true true e = (tt, tt)
@@ -41,7 +41,7 @@ grown-refl [] = all-grown
 grown-refl (f ∷ fs) =
     subst (λ (cs : List Capture). Grown (f ∷ fs) (record { is-defining = f .is-defining; first-local = f .first-local; n-locals = f .n-locals; captures = cs } ∷ fs)) (append-nil (f .captures)) (grown [] (grown-refl fs))
 
--- the frames stand on one another: n locals are theirs together, each frame's behind those beneath it, and a using frame has none
+-- the frames stand on one another: n locals are theirs together, each frame's after those beneath it, and a using frame has none
 pub data Stacked : ℕ → List ClosureFrame → Type 0 where
   bottom : Stacked 0 []
   on-top : {n : ℕ} {f : ClosureFrame} {fs : List ClosureFrame} → Stacked n fs → f .first-local ≡ n → (f .is-defining ≡ false → f .n-locals ≡ 0) → f .n-locals ≤ 65535

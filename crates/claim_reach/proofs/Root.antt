@@ -1,34 +1,33 @@
 -- The root: its externals, its frame and its shape around the walk of the whole output. Assumes nothing.
 use Prim.Native.Nat.{ℕ, suc, _+_, _≤_}
-use mathlib.Core.Bool.{Bool, true, false, false≢true}
-use mathlib.Core.List.{List, [], _∷_, _++_, map, reverse, append-assoc, append-nil}
+use mathlib.Core.Bool.{true, false, false≢true}
+use mathlib.Core.List.{List, [], _∷_, _++_, reverse, append-assoc, append-nil}
 use mathlib.Core.Option.{Option, none, some}
 use native.Mathlib.Omega.{arith}
 use mathlib.Core.Path.{_≡_, refl, sym, ap, _∙_, subst}
 use lib.ListN.{length}
 use lib.Dec.{eqb}
-use Rattle.rules.specs.Outcome.{Outcome, ok, refuse}
-use Rattle.rules.specs.Numbers.{Name, Record, record-bytes, records-bytes, SH}
+use Rattle.rules.specs.Numbers.{Name, Record, records-bytes, SH}
 use Rattle.rules.specs.Records.{no-span}
 use Rattle.rules.specs.Tree.{Tree, Binding, external}
-use Rattle.rules.specs.Locals.{LocalDefinition, new-local}
+use Rattle.rules.specs.Locals.{new-local}
 use Rattle.rules.specs.Frames.{ClosureFrame, no-frame, new-frame, top, beneath, defining}
 use Rattle.rules.specs.State.{Limits, Sink, AnalysisStack, empty-stack, with-frames, with-locals, with-out, with-sink}
-use Rattle.rules.specs.Writing.{emit, open-frame, close-frame, shape-numbers}
+use Rattle.rules.specs.Writing.{open-frame, close-frame, shape-numbers}
 use Rattle.rules.specs.Scoping.{push-local}
-use Rattle.rules.specs.Walk.{Place, at-root, unnamed, analyze}
+use Rattle.rules.specs.Walk.{at-root, unnamed}
 use Rattle.rules.specs.Call.{define-externals, open-root, analyze-root}
 use Rattle.rules.proofs.After.{After, fine, after-weaken, after-bind, after-need}
-use Rattle.claim_scope.specs.Scope.{Scope, Meant, meaning, external-names}
+use Rattle.claim_scope.specs.Scope.{meaning}
 use Rattle.claim_reach.specs.Lexical.{read, root-scope, lexical-read}
 use Rattle.claim_reach.specs.Decode.{_>>=_}
 use Rattle.claim_reach.specs.Reach.{View, Trail, check, open-defining, external-slots, no-view, reach, reach-records}
 use Rattle.claim_reach.proofs.Resolving.{none≢some, Grown, all-grown, Stacked, bottom, on-top, Later, Good, none-open, one-more, no-more, view-of}
 use Rattle.claim_reach.proofs.Decoding.{AllFit}
-use Rattle.claim_reach.proofs.Promise.{Key, key, keys, labels, newest-key, labelled, Inside, Agree, Ready, Kept, Step}
+use Rattle.claim_reach.proofs.Promise.{Key, keys, labels, newest-key, labelled, Inside, Agree, Ready, Kept, Step, keys-append}
 use Rattle.claim_reach.proofs.Frames.{emit-is, closed-state}
-use Rattle.claim_reach.proofs.Relabel.{defined-frame, left-state, defining-kept, label-count}
-use Rattle.claim_reach.proofs.Defining.{Names, Scoped}
+use Rattle.claim_reach.proofs.Relabel.{defined-frame, left-state, defining-kept}
+use Rattle.claim_reach.proofs.Defining.{Scoped}
 use Rattle.claim_reach.proofs.Externals.{external-keys, external-keys-slots, externals-scoped}
 use Rattle.claim_reach.proofs.Walking.{Walks, unnamed-fits}
 
@@ -37,10 +36,6 @@ pub record Externals (k : ℕ) (names : List Name) (a b : AnalysisStack) : Type 
   pub same-keys : keys (b .locals) ≡ keys (a .locals) ++ external-keys k names
   pub same-frames : b .frames ≡ a .frames
   pub same-sink : b .sink ≡ a .sink
-
-keys-append : (ls more : List LocalDefinition) → keys (ls ++ more) ≡ keys ls ++ keys more
-keys-append [] more = refl
-keys-append (l ∷ ls) more = ap (λ (ks : List Key). key l ∷ ks) (keys-append ls more)
 
 external-count : (k : ℕ) (names : List Name) → length (external-keys k names) ≡ length names
 unfolding external-keys

@@ -1,35 +1,31 @@
--- A bind or a parameter that is kept: its record stands behind its value, with its slot. Assumes nothing.
+-- A bind or a parameter that is kept: its record stands after its value, with its slot. Assumes nothing.
 use Prim.Native.Nat.{ℕ, zero, suc, _+_, _-_, _<_, _≤_}
-use mathlib.Core.Bool.{Bool, true, false, false≢true}
-use mathlib.Core.List.{List, [], _∷_, _++_, map, reverse}
+use mathlib.Core.Bool.{true, false, false≢true}
+use mathlib.Core.List.{List, [], _∷_, _++_}
 use mathlib.Core.Option.{Option, none, some}
 use native.Mathlib.Omega.{arith}
-use mathlib.Core.Path.{_≡_, refl, sym, ap, ap₂, _∙_, subst}
-use lib.ListN.{length, getD, take, drop, length-drop}
+use mathlib.Core.Path.{_≡_, refl, sym, ap, _∙_, subst}
+use lib.ListN.{length, getD, drop, length-drop}
 use lib.Seq.{getD-drop, drop-drop}
-use lib.Dec.{eqb}
 use borrow.Author.Tests.{eq-eqb}
-use Rattle.rules.specs.Outcome.{Outcome, ok, refuse, need, choose, given}
-use Rattle.rules.specs.Numbers.{Name, Record, Mark, record-bytes, records-bytes}
+use Rattle.rules.specs.Numbers.{Mark, record-bytes}
 use Rattle.rules.specs.Depths.{AnalysisResult}
 use Rattle.rules.specs.Tree.{Binding, at-record, external}
-use Rattle.rules.specs.Locals.{LocalDefinition, local-at}
+use Rattle.rules.specs.Locals.{local-at}
 use Rattle.rules.specs.Frames.{ClosureFrame, no-frame, new-frame, top}
-use Rattle.rules.specs.State.{Limits, AnalysisStack, with-frames, with-locals, with-taint, with-out, with-sink, taken-back}
-use Rattle.rules.specs.Writing.{emit}
+use Rattle.rules.specs.State.{Limits, AnalysisStack, with-locals, with-taint, with-out, with-sink, taken-back}
 use Rattle.rules.specs.Scoping.{first-in-frame, is-at, is-kept, set-analysis, taint-outer, drop-spec, record-spec-init}
 use Rattle.rules.specs.Walk.{Place}
-use Rattle.rules.proofs.After.{After, fine, after-weaken, after-bind, after-choose}
+use Rattle.rules.proofs.After.{After, fine, after-bind, after-choose}
 use Rattle.claim_scope.specs.Scope.{Scope, Meant}
 use Rattle.claim_reach.specs.Decode.{_>>=_}
-use Rattle.claim_reach.specs.Reach.{View, Trail, Reached, expect, check}
-use Rattle.claim_reach.proofs.Resolving.{Grown, Stacked, bottom, on-top}
+use Rattle.claim_reach.specs.Reach.{View, Trail, expect}
+use Rattle.claim_reach.proofs.Resolving.{Stacked, bottom, on-top}
 use Rattle.claim_reach.proofs.Decoding.{OutFits}
-use Rattle.claim_reach.proofs.Promise.{Key, key, keys, labels, Agree, Ready, Back, Kept, Step, kept-then, kept-walk, both-back, step-none}
+use Rattle.claim_reach.proofs.Promise.{Key, keys, labels, Agree, Ready, Back, Kept, Step, kept-then, kept-walk, both-back, step-none, label-count}
 use Rattle.claim_reach.proofs.Frames.{emit-is}
 use Rattle.claim_reach.proofs.Names.{key-at}
-use Rattle.claim_reach.proofs.Keys.{Same, same-none, same-then, same-references-kept, same-analysis}
-use Rattle.claim_reach.proofs.Relabel.{label-count}
+use Rattle.claim_reach.proofs.Keys.{Same, same-then, same-references-kept, same-analysis}
 use Rattle.claim_reach.proofs.Ending.{kept-same, kept-emit, grown-first}
 
 label-as : (ks : List Key) (id : ℕ) → getD (labels ks) id (external 0) ≡ getD ks id (external 0, none) .0
@@ -140,7 +136,7 @@ specs-none ks h sc base kept st = record {
   kept-all = λ e agree r there. (let same : kept + 0 ≡ kept = omega arith in record { count = sym same; all = step-none ks h sc st .kept e agree r });
 }
 
--- one spec and those behind it; how those are walked is told by how many were kept before them
+-- one spec and those after it; how those are walked is told by how many were kept before them
 pub specs-then : {ks : List Key} {h : Place} {sc : Scope} {first : Back} {ms ns : List Meant} {more : List Binding} (second : ℕ → Back) (p base kept : ℕ) (a : AnalysisStack) (x y : ℕ × AnalysisStack)
     → OneSpec ks h sc p base kept first ms a x → Specs ks h sc base (x .0) more (second (x .0)) ns (x .1) y → Specs ks h sc base kept (at-record p ∷ more) (both-back first (second (suc kept))) (ms ++ ns) a y
 unfolding first-in-frame

@@ -1,19 +1,18 @@
 -- Demand 3's statement computed on the worked cases; and of two of them what is reached, so that it is seen that something is. Assumes nothing.
-use Prim.Native.Nat.{ℕ}
 use mathlib.Core.Bool.{true}
-use mathlib.Core.List.{List, [], _∷_, map}
-use mathlib.Core.Option.{Option, none, some}
+use mathlib.Core.List.{[], _∷_}
+use mathlib.Core.Option.{some}
 use mathlib.Core.Path.{_≡_, refl}
-use Rattle.rules.specs.Tree.{at-record, external}
-use Rattle.rules.specs.Cases.{Case, starred, three}
-use Rattle.rules.specs.OwnCases.{own-names, own-functions, own-objects, own-records, objects-in-objects}
+use Rattle.rules.specs.Tree.{at-record}
+use Rattle.rules.specs.Cases.{starred, three}
+use Rattle.rules.specs.OwnCases.{own-names, own-functions, own-objects, own-records}
 use Rattle.rules.proofs.Computing.{everything}
+use Rattle.claim_reach.specs.Trials.{reached, all-agree}
 use Rattle.claim_scope.specs.Scope
 use Rattle.claim_reach.specs.Lexical
 use Rattle.claim_reach.specs.Decode
 use Rattle.claim_reach.specs.Reach
 use Rattle.claim_reach.specs.Trials
-use Rattle.claim_reach.specs.Trials.{reached, all-agree}
 
 -- one name that opens every definition of this crate
 unfoldable pub all-here : Unit {0}

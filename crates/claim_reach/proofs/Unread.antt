@@ -2,11 +2,9 @@
 use Prim.Native.Nat.{ℕ, zero, suc}
 use mathlib.Core.Bool.{Bool, true, false}
 use mathlib.Core.List.{List, [], _∷_, _++_}
-use mathlib.Core.Path.{_≡_, refl}
 use Rattle.rules.specs.Outcome.{choose}
-use Rattle.rules.specs.Tree.{Tree, Expr, Exprs, Binds, Params, Heads, identity, constant, variable, constants, array, plain, import, local, function, object}
-use Rattle.rules.specs.Tree.{_then_, no-exprs, no-binds, no-params, no-heads, bind, param, param-or, fixed, computed}
-use Rattle.claim_scope.specs.Scope.{Scope, Meant, meant, meant-all, meant-binds, meant-params, meant-heads, lexical, identity-means, bind-names, param-names, under, in-object}
+use Rattle.rules.specs.Tree.{Tree, Expr, Exprs, Binds, Params, Heads, identity, constant, variable, constants, array, plain, import, local, function, object, _then_, no-exprs, no-binds, no-params, no-heads, bind, param, param-or, fixed, computed}
+use Rattle.claim_scope.specs.Scope.{Scope, meant, meant-all, meant-binds, meant-params, meant-heads, lexical, identity-means, bind-names, param-names, under, in-object}
 use Rattle.claim_reach.specs.Lexical.{gives-argument, identity-read, read, read-all, read-binds, read-params, read-heads, root-scope, lexical-read}
 use Rattle.claim_reach.specs.Unread.{identity-unread, unread, unread-all, unread-binds, unread-params, unread-heads, lexical-unread, Shuffled, none-left, from-one, from-other}
 

@@ -1,33 +1,27 @@
 -- Steps that open no names: a slot, self, super and $, an import, and a using frame around a step. Assumes nothing.
-use Prim.Native.Nat.{ℕ, zero, suc, _+_, _*_, _-_, _<_, _≤_}
-use mathlib.Core.Bool.{Bool, true, false, _||_, false≢true}
-use mathlib.Core.List.{List, [], _∷_, _++_, map, reverse, append-nil}
-use mathlib.Core.Option.{Option, none, some}
+use Prim.Native.Nat.{ℕ, _<_}
+use mathlib.Core.List.{List, [], _∷_, _++_}
+use mathlib.Core.Option.{some}
 use native.Mathlib.Omega.{arith}
 use mathlib.Core.Path.{_≡_, refl, sym, ap, _∙_, subst}
-use lib.ListN.{length, getElem?, getD, set, take, drop, length-map}
-use lib.Dec.{eqb}
-use borrow.Author.Tests.{eq-eqb}
-use Rattle.rules.specs.Outcome
-use Rattle.rules.specs.Outcome.{need, choose, given}
-use Rattle.rules.specs.Numbers.{Name, Record, Mark, SH, LS, CS, BL, code, record-bytes, records-bytes, same-name}
-use Rattle.rules.specs.Records.{Span, out-fields, widths, width, no-tail}
+use lib.ListN.{length, getD}
+use Rattle.rules.specs.Outcome.{choose}
+use Rattle.rules.specs.Numbers.{LS, CS, code, records-bytes}
+use Rattle.rules.specs.Records.{out-fields, widths, width}
 use Rattle.rules.specs.Range.{Numbers}
-use Rattle.rules.specs.Tree.{Binding, at-record, external}
-use Rattle.rules.specs.Locals.{LocalDefinition, local-at, no-local, new-local, newest, has-name, use-at, note-reference, with-used-by-sibling, with-used-at-depth, with-scratch-referenced}
-use Rattle.rules.specs.Frames.{LSlot, local-slot, capture-slot, Capture, ClosureFrame, Resolved, new-frame, top, beneath, defining, resolve-to-slot}
-use Rattle.rules.specs.State.{Limits, AnalysisStack, with-frames, with-out, with-sink, with-locals, with-taint}
-use Rattle.rules.specs.Writing.{Level, error, is-error, slot-mark, slot-number, shape-numbers, emit, report, bad-place, open-frame, close-frame}
-use Rattle.rules.specs.Scoping.{touch-local, emit-slot}
-use Rattle.rules.specs.Walk.{Place, use-local}
-use Rattle.rules.proofs.After.{After, fine, after-ok, after-weaken, after-bind, after-need, after-given, chosen}
-use Rattle.claim_scope.specs.Scope.{Scope, Meant, meaning}
+use Rattle.rules.specs.Tree.{Binding, external}
+use Rattle.rules.specs.Frames.{LSlot, local-slot, capture-slot, ClosureFrame, resolve-to-slot}
+use Rattle.rules.specs.State.{Limits, AnalysisStack, with-frames, with-out, with-sink}
+use Rattle.rules.specs.Writing.{slot-mark, slot-number, emit}
+use Rattle.rules.specs.Scoping.{emit-slot}
+use Rattle.rules.proofs.After.{After, fine, after-ok, after-bind, after-need, after-self}
+use Rattle.claim_scope.specs.Scope.{Meant}
 use Rattle.claim_reach.specs.Decode.{_>>=_, mark-among, out-marks}
-use Rattle.claim_reach.specs.Reach.{View, Trail, Reached, source, sources, expect, check, open-using, open-defining, slot-read, leaf}
-use Rattle.claim_reach.proofs.Resolving.{Grown, grown, grown-refl, Stacked, on-top, Later, seen, seen-later, Sourced, no-more, Good, one-more, view-of, slots-of, taken-of, Right, resolve-right, grown-later}
+use Rattle.claim_reach.specs.Reach.{View, Trail, source, slot-read}
+use Rattle.claim_reach.proofs.Resolving.{Grown, seen, seen-later, resolve-right}
 use Rattle.claim_reach.proofs.Decoding.{OutFits, AllFit, record-one, fits-fields}
-use Rattle.claim_reach.proofs.Closing.{Shut, shuts}
-use Rattle.claim_reach.proofs.Promise.{Key, key, keys, labels, named, newest-key, labelled, Inside, Agree, Ready, Back, Kept, Step, after-self, after-under, step-none, step-emit}
+use Rattle.claim_reach.proofs.Promise.{Key, labels, Ready, Back, Kept, label-count}
+use Rattle.rules.specs.Outcome
 
 -- what a state's walk starts from is its frames and its output
 pub kept-from : {ks : List Key} {walk : Back} {ms : List Meant} {b : AnalysisStack} (a a′ : AnalysisStack) → a′ .frames ≡ a .frames → a′ .sink .out ≡ a .sink .out → Kept ks walk ms a′ b → Kept ks walk ms a b
@@ -51,9 +45,6 @@ slot-reads : (v : View) (p : ℕ) (s : LSlot) (b : Binding) (rest : Trail) → s
 unfolding slot-read slot-mark slot-number choose code source _>>=_
 slot-reads v p (local-slot n) b rest e = rw e refl
 slot-reads v p (capture-slot n) b rest e = rw e refl
-
-label-count : (ks : List Key) → length (labels ks) ≡ length ks
-label-count ks = length-map ks (λ (k : Key). k .0)
 
 pub record SlotWritten (p id : ℕ) (a b : AnalysisStack) : Type 0 where
   pub same-errored : b .sink .errored ≡ a .sink .errored

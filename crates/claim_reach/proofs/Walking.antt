@@ -1,35 +1,33 @@
 -- The walk through an output, form by form. Assumes nothing.
-use Prim.Native.Nat.{ℕ, zero, suc, _+_, _<_, _≤_}
+use Prim.Native.Nat.{ℕ, suc, _+_, _<_}
 use mathlib.Core.Bool.{Bool, true, false}
-use mathlib.Core.List.{List, [], _∷_, _++_, map}
+use mathlib.Core.List.{List, [], _∷_, _++_}
 use mathlib.Core.Option.{Option, none, some}
 use native.Mathlib.Omega.{arith}
-use mathlib.Core.Path.{_≡_, refl, sym, ap, _∙_, subst}
-use lib.ListN.{length, getD, drop}
+use mathlib.Core.Path.{_≡_, refl, ap, _∙_, subst}
+use lib.ListN.{length, getD}
 use lib.Dec.{eqb}
 use borrow.Author.Tests.{eq-eqb}
-use Rattle.rules.specs.Outcome.{Outcome, ok, refuse, need, choose, given}
-use Rattle.rules.specs.Numbers.{Name, Mark, AR, LO, BV, code}
+use Rattle.rules.specs.Outcome.{choose}
+use Rattle.rules.specs.Numbers.{Name, BV, code}
 use Rattle.rules.specs.Records.{Span, out-fields, widths, width}
 use Rattle.rules.specs.Range.{Numbers}
 use Rattle.rules.specs.Depths.{no-dependence}
-use Rattle.rules.specs.Tree.{Expr, Exprs, Binds, no-binds, bind, local, at-record, Binding}
-use Rattle.rules.specs.Settling.{propagate-analysis}
-use Rattle.rules.specs.State.{Limits, AnalysisStack, with-frames, with-taint, with-out, with-sink}
-use Rattle.rules.specs.Writing.{emit, open-frame, close-frame}
-use Rattle.rules.specs.Scoping.{settle-frame}
-use Rattle.rules.specs.Walk.{Place, Naming, unnamed, naming-numbers, bind-naming, deeper, is-empty, analyze, analyze-all, analyze-binds}
+use Rattle.rules.specs.Tree.{Expr, Binds, no-binds, bind}
+use Rattle.rules.specs.State.{Limits, AnalysisStack, with-frames, with-taint}
+use Rattle.rules.specs.Writing.{open-frame}
+use Rattle.rules.specs.Walk.{Place, Naming, unnamed, naming-numbers, bind-naming, analyze, analyze-binds}
 use Rattle.rules.specs.Frames.{new-frame}
-use Rattle.rules.proofs.After.{After, fine, after-weaken, after-bind, after-need, after-choose}
-use Rattle.claim_scope.specs.Scope.{Scope, Meant, bind-names, under}
-use Rattle.claim_reach.specs.Lexical.{read, read-all, read-binds}
+use Rattle.rules.proofs.After.{After, fine, after-weaken, after-bind, after-need}
+use Rattle.claim_scope.specs.Scope.{Scope, Meant}
+use Rattle.claim_reach.specs.Lexical.{read, read-binds}
 use Rattle.claim_reach.specs.Decode.{_>>=_, mark-among, out-marks}
-use Rattle.claim_reach.specs.Reach.{View, Trail, Reached, expect, check, open-using, open-defining, bind-slots, reach, reach-all, reach-binds}
+use Rattle.claim_reach.specs.Reach.{View, Trail, Reached, expect, check, open-using, bind-slots, reach, reach-binds}
 use Rattle.claim_reach.proofs.Decoding.{OutFits, fits-fields}
-use Rattle.claim_reach.proofs.Promise.{Key, keys, labels, Agree, Ready, Back, Kept, Step, both-back}
+use Rattle.claim_reach.proofs.Promise.{Key, Back, Step, both-back}
 use Rattle.claim_reach.proofs.Frames.{using-closes}
 use Rattle.claim_reach.proofs.Ending.{step-from}
-use Rattle.claim_reach.proofs.Specs.{OneSpec, Specs, specified, spec-kept, specs-none, specs-then, specs-by}
+use Rattle.claim_reach.proofs.Specs.{Specs, specified, spec-kept, specs-none, specs-then, specs-by}
 
 -- what was reached before these
 abbrev pub joined : List Meant → List Meant × Trail → Reached

@@ -1,26 +1,23 @@
 -- The walk through the output of each form that defines no name. Assumes nothing.
-use Prim.Native.Nat.{ℕ, zero, suc, _+_, _<_, _≤_}
+use Prim.Native.Nat.{ℕ}
 use mathlib.Core.Bool.{Bool, true, false}
-use mathlib.Core.List.{List, [], _∷_, _++_, map, tail}
-use mathlib.Core.Option.{Option, none, some}
-use mathlib.Core.Path.{_≡_, refl, sym, ap, _∙_, subst}
+use mathlib.Core.List.{List, [], _∷_, _++_}
+use mathlib.Core.Path.{_≡_, refl, subst}
 use lib.ListN.{length}
-use Rattle.rules.specs.Outcome.{Outcome, ok, refuse, need, choose, given}
-use Rattle.rules.specs.Numbers.{Name, Mark, TV, AC, AR, IM, FV, code}
-use Rattle.rules.specs.Records.{Span, span-numbers, out-fields, widths, width}
-use Rattle.rules.specs.Range.{Numbers}
+use Rattle.rules.specs.Outcome.{choose}
+use Rattle.rules.specs.Numbers.{Name, Mark, TV, AC, AR, IM}
+use Rattle.rules.specs.Records.{Span, span-numbers}
 use Rattle.rules.specs.Tree.{Expr, Exprs, identity, constant, variable, constants, array, plain, import, no-exprs, _then_, count-exprs, place-of}
 use Rattle.rules.specs.State.{Limits, AnalysisStack, with-frames}
 use Rattle.rules.specs.Frames.{new-frame}
-use Rattle.rules.specs.Writing.{emit, open-frame}
-use Rattle.rules.specs.Walk.{Place, Naming, unnamed, first-naming, analyze, analyze-all, analyze-assertions, analyze-values, use-import}
+use Rattle.rules.specs.Writing.{open-frame}
+use Rattle.rules.specs.Walk.{Place, unnamed, analyze, analyze-all, analyze-assertions, use-import}
 use Rattle.rules.proofs.After.{After, fine, after-weaken, after-bind, after-need}
-use Rattle.claim_scope.specs.Scope.{Scope, Meant, meaning}
-use Rattle.claim_reach.specs.Lexical.{read, read-all, identity-read}
-use Rattle.claim_reach.specs.Decode.{_>>=_, mark-among, out-marks}
-use Rattle.claim_reach.specs.Reach.{View, Trail, Reached, expect, leaf, open-using, reach, reach-all, reach-assertions, reach-values}
-use Rattle.claim_reach.proofs.Decoding.{OutFits, fits-fields}
-use Rattle.claim_reach.proofs.Promise.{Key, labels, Agree, Ready, Back, Kept, Step, both-back, step-none, step-then, step-by}
+use Rattle.claim_scope.specs.Scope.{Scope}
+use Rattle.claim_reach.specs.Lexical.{read, read-all}
+use Rattle.claim_reach.specs.Reach.{leaf, reach, reach-all, reach-assertions}
+use Rattle.claim_reach.proofs.Decoding.{OutFits}
+use Rattle.claim_reach.proofs.Promise.{Key, Step, both-back, step-none, step-then, step-by}
 use Rattle.claim_reach.proofs.Frames.{using-closes}
 use Rattle.claim_reach.proofs.Names.{step-errored, bad-errors, step-write, local-step, identity-step}
 use Rattle.claim_reach.proofs.Walking.{Walks, unnamed-fits}

@@ -21,15 +21,14 @@ use Rattle.rules.specs.Frames.{ClosureFrame}
 use Rattle.rules.specs.Writing.{warning, emit, report, open-frame}
 use Rattle.rules.specs.Scoping.{settle-frame}
 use Rattle.rules.specs.Walk.{Place, Naming, unnamed, as-bind, as-method, as-computed-method, naming-numbers, deeper, is-identity, finish-function, analyze}
-use Rattle.rules.proofs.After.{After, fine, after-ok, after-weaken, after-bind, after-need, after-choose}
+use Rattle.rules.proofs.After.{After, fine, after-ok, after-weaken, after-bind, after-need, after-choose, after-self}
 use Rattle.claim_scope.specs.Scope.{Scope, Meant, param-names, under}
 use Rattle.claim_reach.specs.Lexical.{read, read-params, gives-argument}
-use Rattle.claim_reach.specs.Decode
 use Rattle.claim_reach.specs.Decode.{mark-among, out-marks}
 use Rattle.claim_reach.specs.Reach.{View, Trail, expect, leaf, is-iy, param-slots, reach, reach-params}
 use Rattle.claim_reach.proofs.Resolving.{none≢some, Grown}
 use Rattle.claim_reach.proofs.Decoding.{OutFits, AllFit, fits-fields, record-one}
-use Rattle.claim_reach.proofs.Promise.{Key, Agree, Ready, Back, Step, Follows, step-follows, both-back, after-self}
+use Rattle.claim_reach.proofs.Promise.{Key, Agree, Ready, Back, Step, Follows, step-follows, both-back}
 use Rattle.claim_reach.proofs.Frames.{emit-is}
 use Rattle.claim_reach.proofs.Keys.{same-settle, same-warning, analysis-keeps}
 use Rattle.claim_reach.proofs.Relabel.{defined-frame}
@@ -41,6 +40,7 @@ use Rattle.claim_reach.proofs.FramedRecord.{record-back, framed-emitted
 use Rattle.claim_reach.proofs.GivesArgument.{says-first, body-first, argument-given}
 use Rattle.claim_reach.proofs.Walking.{NamingFits, unnamed-fits, Walks}
 use Rattle.claim_reach.proofs.WalkingParams.{WalksParams}
+use Rattle.claim_reach.specs.Decode
 
 named-fits : (flag name n : ℕ) → Numbers (flag ∷ name ∷ []) → n ≤ 65535 → OutFits (FN, flag ∷ name ∷ n ∷ [])
 unfolding mark-among out-marks code choose out-fields widths width Numbers
@@ -62,7 +62,7 @@ function-means : (p : ℕ) (span : Span) (ps : Params) (e : Expr) (sc : Scope) �
 unfolding read choose
 function-means p span ps e sc gives = rw gives refl
 
--- behind `FN` there is no identity function
+-- after `FN` there is no identity function
 function-follows : (p : ℕ) (span : Span) (ps : Params) (e : Expr) → Follows (record-back FN (param-slots ps) (inside-back ps e)) (λ v rs. reach (function p span ps e) v rs)
 unfolding inside-back reach is-iy expect choose code Decode._>>=_
 function-follows p span ps e v [] y d = absurd (none≢some d)

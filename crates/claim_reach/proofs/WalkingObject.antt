@@ -1,26 +1,26 @@
 -- The walk through the values and the heads of an object. Assumes nothing.
-use Prim.Native.Nat.{ℕ, zero, suc, _+_, _<_, _≤_}
-use mathlib.Core.Bool.{Bool, true, false}
-use mathlib.Core.List.{List, [], _∷_, _++_, map, tail}
+use Prim.Native.Nat.{ℕ}
+use mathlib.Core.Bool.{false}
+use mathlib.Core.List.{List, [], _∷_, tail}
 use mathlib.Core.Option.{Option, none, some}
-use mathlib.Core.Path.{_≡_, refl, sym, ap, _∙_, subst}
+use mathlib.Core.Path.{_≡_, refl, subst}
 use lib.ListN.{length}
-use Rattle.rules.specs.Outcome.{Outcome, ok, refuse, need, choose, given}
-use Rattle.rules.specs.Numbers.{Name, Mark, FV, FH, code}
-use Rattle.rules.specs.Records.{Span, out-fields, widths, width}
+use Rattle.rules.specs.Outcome.{choose}
+use Rattle.rules.specs.Numbers.{FV, FH, code}
+use Rattle.rules.specs.Records.{out-fields, widths, width}
 use Rattle.rules.specs.Range.{Numbers}
 use Rattle.rules.specs.Tree.{Expr, Exprs, Heads, Head, no-exprs, _then_, no-heads, fixed, computed, place-of}
 use Rattle.rules.specs.State.{Limits, AnalysisStack, with-frames}
 use Rattle.rules.specs.Frames.{new-frame}
-use Rattle.rules.specs.Writing.{emit, open-frame}
-use Rattle.rules.specs.Walk.{Place, Naming, unnamed, first-naming, analyze, analyze-values, analyze-heads}
+use Rattle.rules.specs.Writing.{open-frame}
+use Rattle.rules.specs.Walk.{Place, Naming, unnamed, first-naming, analyze-values, analyze-heads}
 use Rattle.rules.proofs.After.{After, fine, after-weaken, after-bind, after-need}
-use Rattle.claim_scope.specs.Scope.{Scope, Meant}
+use Rattle.claim_scope.specs.Scope.{Scope}
 use Rattle.claim_reach.specs.Lexical.{read, read-all, read-heads}
 use Rattle.claim_reach.specs.Decode.{_>>=_, mark-among, out-marks}
 use Rattle.claim_reach.specs.Reach.{View, Trail, Reached, expect, open-using, reach, reach-values, reach-heads}
 use Rattle.claim_reach.proofs.Decoding.{OutFits, fits-fields}
-use Rattle.claim_reach.proofs.Promise.{Key, Back, Step, both-back, step-none, step-then, step-by}
+use Rattle.claim_reach.proofs.Promise.{Key, Step, both-back, step-none, step-then, step-by}
 use Rattle.claim_reach.proofs.Frames.{using-closes}
 use Rattle.claim_reach.proofs.Names.{step-write}
 use Rattle.claim_reach.proofs.Walking.{NamingFits, unnamed-fits, Walks, joined}

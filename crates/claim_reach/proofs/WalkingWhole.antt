@@ -15,10 +15,8 @@ use Rattle.rules.specs.Settling.{propagate-analysis}
 use Rattle.rules.specs.State.{Limits, ObjectUse, AnalysisStack, with-object-use}
 use Rattle.rules.specs.Writing.{open-frame}
 use Rattle.rules.specs.Scoping.{settle-frame}
-use Rattle.rules.specs.Walk
 use Rattle.rules.specs.Walk.{Place, deeper, is-outermost, entered-use, left-use, is-static, object-numbers, head-namings, analyze, analyze-assertions}
 use Rattle.rules.proofs.After.{fine, after-weaken, after-bind, after-need}
-use Rattle.claim_scope.specs.Scope
 use Rattle.claim_scope.specs.Scope.{Scope, Meant, bind-names, under}
 use Rattle.claim_reach.specs.Lexical.{read, read-all, read-binds, read-heads}
 use Rattle.claim_reach.specs.Decode.{_>>=_, mark-among, out-marks}
@@ -36,6 +34,8 @@ use Rattle.claim_reach.proofs.InObject.{agree-in-object}
 use Rattle.claim_reach.proofs.Walking.{Walks, WalksBinds, joined, spec-shape}
 use Rattle.claim_reach.proofs.WalkingForms.{WalksAssertions}
 use Rattle.claim_reach.proofs.WalkingObject.{NamingsFit, WalksHeads, WalksValues}
+use Rattle.rules.specs.Walk
+use Rattle.claim_scope.specs.Scope
 
 -- which of self, super and $ an object used is nothing to the walk
 
@@ -61,7 +61,7 @@ object-fits outermost u kept hs ts vs counts few =
 append-four : {A : Type 0} (ws xs ys zs : List A) → ws ++ xs ++ ys ++ zs ≡ ws ++ (xs ++ (ys ++ zs))
 append-four ws xs ys zs = append-assoc (ws ++ xs) ys zs ∙ append-assoc ws xs (ys ++ zs)
 
--- three walks, one behind the other
+-- three walks, one after the other
 three-shape : (o : Reached) (second third : Trail → Reached) (g : List Meant × Trail → Reached)
     → (o >>= λ x. second (x .1) >>= λ y. third (y .1) >>= λ z. g (z .0 ++ (y .0 ++ x .0), z .1))
     ≡ (((o >>= λ x. second (x .1) >>= joined (x .0)) >>= λ y. third (y .1) >>= joined (y .0)) >>= g)
@@ -114,7 +114,7 @@ object-inside : (ks : List Key) (p : ℕ) (bs : Binds) (h : Place) (sc : Scope) 
 object-inside ks p bs h sc st agree r scoped = agree-in-object ks (this-key p) (bind-keys bs) (bind-names bs) p (length (st .locals)) h sc refl (as-many ks st (r .same-keys)) agree
     (subst (λ (ns : Names). Scoped (ks ++ (this-key p ∷ bind-keys bs)) (ns ++ sc .names)) (this-names p bs) scoped)
 
--- The state as the object's frame opens, and behind its end
+-- The state as the object's frame opens, and after its end
 
 entered : Place → AnalysisStack → AnalysisStack
 entered h st = with-object-use (entered-use (is-outermost h) (st .object-use)) st

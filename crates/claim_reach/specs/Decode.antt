@@ -24,7 +24,7 @@ unfoldable pub mark-among : ℕ → List Mark → Option Mark
 mark-among c [] = none
 mark-among c (m ∷ ms) = choose (eqb c (code m)) (λ _. some m) (λ _. mark-among c ms)
 
--- how many numbers stand behind a record's fields; s begins with the record
+-- how many numbers stand after a record's fields; s begins with the record
 unfoldable pub tail-count : Tail → List ℕ → ℕ
 tail-count no-tail s = 0
 tail-count constants-tail s = number-at s 2

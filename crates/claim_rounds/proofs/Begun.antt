@@ -16,13 +16,13 @@ use Rattle.rules.specs.State.{Limits, AnalysisStack, with-locals, with-frames}
 use Rattle.rules.specs.Writing.{open-frame}
 use Rattle.rules.specs.Scoping.{first-in-frame, push-local, push-in-frame, define-local, define-this}
 use Rattle.rules.specs.Walk.{define-binds, define-params}
-use Rattle.rules.proofs.After.{After, fine, after-weaken, after-bind, after-need, after-choose}
+use Rattle.rules.proofs.After.{After, fine, after-weaken, after-bind, after-need, after-choose, after-both}
 use Rattle.rules.proofs.ReadRecords.{Every}
 use Rattle.rules.proofs.Spreading.{Inside}
 use Rattle.law_steady.specs.Steady.{Defined}
 use Rattle.law_steady.proofs.Steps.{defined-this, defined-binds, defined-params}
 use Rattle.claim_rounds.proofs.Later.{later-is, bindings, FirstUnnoted}
-use Rattle.claim_rounds.proofs.Steps.{after-both, report-writes}
+use Rattle.claim_rounds.proofs.Steps.{report-writes}
 use Rattle.claim_rounds.proofs.Framed.{Among, none, skipped, next, among-both, Specs}
 
 -- the places of the specs' records
@@ -36,7 +36,7 @@ param-places no-params = []
 param-places (param p name span ps) = p ∷ param-places ps
 param-places (param-or p name span default ps) = p ∷ param-places ps
 
--- locals for some of these records, behind those that were there
+-- locals for some of these records, after those that were there
 record Grown (places : List ℕ) (st st′ : AnalysisStack) : Type 0 where
   more : List LocalDefinition
   is : st′ .locals ≡ st .locals ++ more

@@ -22,8 +22,7 @@ use Rattle.rules.proofs.ReadRecords.{Every}
 use Rattle.rules.proofs.Spreading.{Inside}
 use Rattle.law_steady.specs.Steady.{Steady}
 use Rattle.law_steady.proofs.Keeping.{first-same}
-use Rattle.claim_rounds.proofs.Later.{Later, later-same, later-is, later-then, later-length, later-take, later-drop, later-set, later-from, later-without-notes, local-analysed}
-use Rattle.claim_rounds.proofs.Later.{bindings, same-bindings, FirstUnnoted, unnoted-later}
+use Rattle.claim_rounds.proofs.Later.{Later, later-same, later-is, later-then, later-length, later-take, later-drop, later-set, later-from, later-without-notes, local-analysed, bindings, same-bindings, FirstUnnoted, unnoted-later}
 use Rattle.claim_rounds.proofs.Steps.{Still, Writes, still-then, still-written, emit-writes}
 
 pub every-both : {A : Type 0} (P : A → Type 0) (xs ys : List A) → Every P xs → Every P ys → Every P (xs ++ ys)

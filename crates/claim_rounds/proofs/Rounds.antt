@@ -15,14 +15,14 @@ use Rattle.rules.specs.State.{Limits, AnalysisStack, empty-stack, with-locals, 
 use Rattle.rules.specs.Scoping.{push-local}
 use Rattle.rules.specs.Walk.{unnamed, at-root}
 use Rattle.rules.specs.Call.{Lent, limits-of, define-externals, open-root, analyze-root, run, report-of, left-by, call}
-use Rattle.rules.proofs.After.{After, fine, refused, after-ok, after-weaken, after-bind, after-need}
+use Rattle.rules.proofs.After.{After, fine, refused, after-ok, after-weaken, after-bind, after-need, after-any}
+use Rattle.rules.proofs.Outcomes.{same-ok}
 use Rattle.rules.proofs.ReadRecords.{Every}
-use Rattle.law_runs.proofs.Reading.{same-ok}
 use Rattle.law_steady.specs.Steady.{weight}
 use Rattle.law_steady.proofs.Steady.{steady}
 use Rattle.law_steady.proofs.Weighing.{expr-weighs}
 use Rattle.claim_rounds.specs.Settlings.{Settling, Settles, all-rounds, behind, root-settlings, run-settlings, settled-places}
-use Rattle.claim_rounds.proofs.Steps.{anything, still-open, still-close}
+use Rattle.claim_rounds.proofs.Steps.{still-open, still-close}
 use Rattle.claim_rounds.proofs.Traced.{Walked, walked-same, walked-still, traced, and-also}
 use Rattle.claim_rounds.proofs.Walking.{here, walked}
 
@@ -55,7 +55,7 @@ module _ (L : Limits) where
 tree-weighs : (s : List ℕ) → After (λ (t : Tree). weight (t .root) ≤ length s) (tree-at s)
 unfolding tree-at
 tree-weighs s =
-    after-bind _ (anything _) λ r _. after-need _ 11 0 _ λ _. after-need _ 1 0 _ λ _. after-bind _ (expr-weighs s 200 any-expression _) λ x weighs.
+    after-bind _ (after-any _) λ r _. after-need _ 11 0 _ λ _. after-need _ 1 0 _ λ _. after-bind _ (expr-weighs s 200 any-expression _) λ x weighs.
     after-need _ 5 _ _ λ whole. fine (omega (arith, weighs, eqb-true (x .1) (length s) whole))
 
 -- a tree was read, and its analysis had these settlings

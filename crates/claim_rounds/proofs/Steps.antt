@@ -3,7 +3,7 @@ use Prim.Native.Nat.{ℕ, _+_}
 use mathlib.Core.Bool.{Bool}
 use mathlib.Core.List.{List, [], _∷_}
 use mathlib.Core.Path.{_≡_, refl, _∙_}
-use Rattle.rules.specs.Outcome.{Outcome, ok, refuse}
+use Rattle.rules.specs.Outcome.{Outcome}
 use Rattle.rules.specs.Numbers.{Name, Mark, IY, FN, BL, SH}
 use Rattle.rules.specs.Records.{Span}
 use Rattle.rules.specs.Locals.{LocalDefinition}
@@ -11,12 +11,8 @@ use Rattle.rules.specs.State.{Limits, AnalysisStack, with-locals, with-frames, 
 use Rattle.rules.specs.Writing.{Level, emit, report, bad-place, open-frame, close-frame}
 use Rattle.rules.specs.Scoping.{touch-local, touch-object, emit-slot, judge, judge-all}
 use Rattle.rules.specs.Walk.{Place, Naming, use-identity, use-local, use-import, finish-function}
-use Rattle.rules.proofs.After.{After, fine, refused, after-weaken, after-bind, after-need, after-choose, after-given}
+use Rattle.rules.proofs.After.{After, fine, after-weaken, after-bind, after-need, after-choose, after-given, after-any}
 use Rattle.claim_rounds.proofs.Later.{Later, later-is, later-then, later-set, local-touched}
-
-pub after-both : {A : Type 0} {P Q : A → Type 0} {o : Outcome A} → After P o → After Q o → After (λ a. P a × Q a) o
-after-both (fine h) (fine k) = fine (h, k)
-after-both refused k = refused
 
 pub record Still (st st′ : AnalysisStack) : Type 0 where
   pub later : Later (st .locals) (st′ .locals)
@@ -51,10 +47,6 @@ still-then h k = record { later = later-then (h .later) (k .later); same-rounds 
 
 pub after-still : {st st′ : AnalysisStack} {o : Outcome AnalysisStack} → Still st st′ → After (Still st′) o → After (Still st) o
 after-still h k = after-weaken k λ _ last. still-then h last
-
-pub anything : {A : Type 0} (o : Outcome A) → After (λ _. Unit {0}) o
-anything (ok a) = fine tt
-anything (refuse number place) = refused
 
 module _ (L : Limits) where
   -- Writing
@@ -91,7 +83,7 @@ module _ (L : Limits) where
 
   still-slot : (p id : ℕ) (st : AnalysisStack) → After (Still st) (emit-slot L p id st)
   unfolding emit-slot with-frames
-  still-slot p id st = after-bind _ (anything _) λ r _. after-still (still-same st (with-frames (r .frames) st) refl refl) (still-emit p _ _ _)
+  still-slot p id st = after-bind _ (after-any _) λ r _. after-still (still-same st (with-frames (r .frames) st) refl refl) (still-emit p _ _ _)
 
   pub still-identity : (p which : ℕ) (span : Span) (h : Place) (st : AnalysisStack) → After (Still st) (use-identity L p which span h st)
   unfolding use-identity touch-object with-taint with-object-use

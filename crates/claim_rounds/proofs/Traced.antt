@@ -10,13 +10,13 @@ use Rattle.rules.specs.Locals.{LocalDefinition}
 use Rattle.rules.specs.Settling.{Reference, Loop, propagate-analysis, propagate-use, one-round, settle, settled}
 use Rattle.rules.specs.State.{Limits, AnalysisStack, with-locals, with-references, with-rounds, with-sink}
 use Rattle.rules.specs.Scoping.{first-in-frame, settle-frame, finish-frame}
-use Rattle.rules.proofs.After.{After, fine, refused, after-weaken, after-bind}
+use Rattle.rules.proofs.After.{After, fine, refused, after-weaken, after-bind, after-both}
 use Rattle.rules.proofs.ReadRecords.{Every}
 use Rattle.rules.proofs.Spreading.{Inside}
 use Rattle.rules.proofs.Rounds.{rounds-at-most, use-settles, analysis-settles, use-settled, analysis-settled}
 use Rattle.claim_rounds.specs.Settlings.{Settling, settled-by, Settles, all-rounds, settling, behind, around}
 use Rattle.claim_rounds.proofs.Later.{Later, later-then, LaterLoop, analysis-later, use-later, settle-later}
-use Rattle.claim_rounds.proofs.Steps.{after-both, Still, still-written, still-close, judging-writes}
+use Rattle.claim_rounds.proofs.Steps.{Still, still-written, still-close, judging-writes}
 use Rattle.claim_rounds.proofs.Framed.{every-both, Framed, framed-on, Keeps, keeps-then, keeps-written}
 
 -- from a state to a later one, with these settlings at these places
@@ -46,7 +46,7 @@ walked-still h k = record { at-places = h .at-places; all-settle = h .all-settle
 
 -- Outcomes
 
--- what a step has settled, then what is settled behind it
+-- what a step has settled, then what is settled after it
 pub traced : {A B : Type 0} (at : A → AnalysisStack) (to : B → AnalysisStack) {P : A → Type 0} {Q : B → Type 0} {ps qs : List ℕ} {own : List Settling} {st : AnalysisStack} {o : Outcome A}
     {f : A → Outcome B} {g : A → List Settling} → After (λ a. Walked ps own st (at a) × P a) o → ((a : A) → P a → After (λ b. Walked qs (g a) (at a) (to b) × Q b) (f a))
     → After (λ b. Walked (ps ++ qs) (own ++ behind o g) st (to b) × Q b) (o >>= f)
@@ -133,7 +133,7 @@ finished L p {outer = outer} {base = base} {kept = kept} st h =
       later-then (subst (λ (n : ℕ). Later (outer .locals) (take n (st₁ .locals))) (sym (still-framed .first)) (still-framed .outer-later)) (s .later),
     )
 
--- a frame from the end of its specs on; what ends it may look at the state behind its body
+-- a frame from the end of its specs on; what ends it may look at the state after its body
 pub around-walked : (L : Limits) (p : ℕ) {outer : AnalysisStack} {base kept : ℕ} {ps : List ℕ} (st : AnalysisStack) (body : AnalysisStack → Outcome AnalysisStack) (inside : AnalysisStack → List Settling)
     (end : AnalysisStack → AnalysisStack → Outcome AnalysisStack) → Framed outer base kept st
     → ((st : AnalysisStack) → After (λ (st′ : AnalysisStack). Walked ps (inside st) st st′ × Keeps st st′) (body st)) → ((st st′ : AnalysisStack) → After (Still st′) (end st st′))

@@ -8,24 +8,20 @@ use lib.ListN.{length}
 use Rattle.rules.specs.Outcome.{Outcome, _>>=_}
 use Rattle.rules.specs.Numbers.{TV, AC, AR, LO, OB, BV, PA, FH, FV}
 use Rattle.rules.specs.Depths.{no-dependence}
-use Rattle.rules.specs.Tree.{Expr, Exprs, Binds, Params, Heads, place-of}
-use Rattle.rules.specs.Tree.{identity, constant, variable, constants, array, plain, import, local, function, object}
-use Rattle.rules.specs.Tree.{no-exprs, _then_, no-binds, bind, no-params, param, param-or, no-heads, fixed, computed}
+use Rattle.rules.specs.Tree.{Expr, Exprs, Binds, Params, Heads, place-of, identity, constant, variable, constants, array, plain, import, local, function, object, no-exprs, _then_, no-binds, bind, no-params, param, param-or, no-heads, fixed, computed}
 use Rattle.rules.specs.Locals.{LocalDefinition}
 use Rattle.rules.specs.State.{Limits, ObjectUse, AnalysisStack, with-taint, with-object-use}
 use Rattle.rules.specs.Writing.{open-frame, close-frame}
-use Rattle.rules.specs.Walk.{Place, Naming, unnamed, bind-naming, first-naming, head-namings, deeper, in-object, is-outermost, entered-use}
-use Rattle.rules.specs.Walk.{analyze, analyze-all, analyze-assertions, analyze-values, analyze-binds, analyze-params, analyze-heads}
-use Rattle.rules.proofs.After.{After, fine, after-weaken, after-bind}
-use Rattle.law_runs.proofs.Reading.{bind-assoc}
+use Rattle.rules.specs.Walk.{Place, Naming, unnamed, bind-naming, first-naming, head-namings, deeper, in-object, is-outermost, entered-use, analyze, analyze-all, analyze-assertions, analyze-values, analyze-binds, analyze-params, analyze-heads}
+use Rattle.rules.proofs.After.{After, fine, after-weaken, after-bind, after-both}
+use Rattle.rules.proofs.Outcomes.{bind-assoc}
 use Rattle.law_steady.specs.Steady.{Steady}
 use Rattle.law_steady.proofs.Keeping.{steady-then, opened-then}
 use Rattle.law_steady.proofs.Steps.{steady-taint, using-opens, frame-closes}
 use Rattle.law_steady.proofs.Steady.{steady, steady-assertions, steady-values}
-use Rattle.claim_rounds.specs.Settlings.{Settling, behind, settlings, settlings-all, settlings-assertions, settlings-values, settlings-binds, settlings-params, settlings-heads}
-use Rattle.claim_rounds.specs.Settlings.{settled-places, settled-places-all, settled-places-binds, settled-places-params, settled-places-heads}
+use Rattle.claim_rounds.specs.Settlings.{Settling, behind, settlings, settlings-all, settlings-assertions, settlings-values, settlings-binds, settlings-params, settlings-heads, settled-places, settled-places-all, settled-places-binds, settled-places-params, settled-places-heads}
 use Rattle.claim_rounds.proofs.Later.{later-same, later-then}
-use Rattle.claim_rounds.proofs.Steps.{after-both, Still, still-same, after-still, still-emit, still-open, still-close, still-identity, still-name, still-import, still-function}
+use Rattle.claim_rounds.proofs.Steps.{Still, still-same, after-still, still-emit, still-open, still-close, still-identity, still-name, still-import, still-function}
 use Rattle.claim_rounds.proofs.Framed.{Framed, Specs, specs-on, specs-end, Keeps, keeps-then, keeps-steady, spec-recorded}
 use Rattle.claim_rounds.proofs.Begun.{bind-places, param-places, Begun, Named, begun-open, begun-this, named-binds, named-params, named-in-object}
 use Rattle.claim_rounds.proofs.Traced.{Walked, walked-same, traced, traced-choice, Goes, steps, goes-from, after-goes, and-also, around-walked}

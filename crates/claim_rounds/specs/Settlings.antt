@@ -51,12 +51,12 @@ all-rounds (s ∷ ss) = settled-by s .rounds + all-rounds ss
 unfoldable pub settling : Loop → (place kept before : ℕ) → AnalysisStack → Settling
 settling loop p kept before st = record { place = p; kept = kept; loop = loop; references = drop before (st .references); locals = st .locals }
 
--- those behind a step, which are none where it is refused
+-- those after a step, which are none where it is refused
 unfoldable pub behind : {A : Type 0} → Outcome A → (A → List Settling) → List Settling
 behind (ok a) f = f a
 behind (refuse number place) f = []
 
--- those of a frame that defines names: one loop before its body, those inside it, and one behind it
+-- those of a frame that defines names: one loop before its body, those inside it, and one after it
 unfoldable pub around : (place kept before : ℕ) → (body : AnalysisStack → Outcome AnalysisStack) → (inside : AnalysisStack → List Settling) → AnalysisStack → List Settling
 around p kept before body inside st =
     let entered = settle-frame propagate-analysis kept before st in

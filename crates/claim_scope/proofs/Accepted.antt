@@ -4,22 +4,20 @@ use native.Mathlib.Omega.{arith}
 use mathlib.Core.Bool.{Bool, true, false}
 use mathlib.Core.List.{List, [], _∷_, _++_}
 use mathlib.Core.Option.{Option, none, some}
-use mathlib.Core.Path.{_≡_, refl, sym, ap, _∙_, subst}
+use mathlib.Core.Path.{_≡_, sym, ap, _∙_, subst}
 use lib.Seq.{take-append-seam}
 use lib.Dec.{ltb}
 use borrow.Author.Tests.{ltb-true}
-use Rattle.rules.specs.Outcome.{Outcome, ok, refuse, choose, given}
+use Rattle.rules.specs.Outcome.{ok, choose, given}
 use Rattle.rules.specs.Numbers.{Name, Mark, ID, VA, IM}
 use Rattle.rules.specs.Records.{Span, span-numbers, fields, in-range, all-in-range}
-use Rattle.rules.specs.Tree.{Tree, Expr, Exprs, Binds, Params, Heads, Binding}
-use Rattle.rules.specs.Tree.{identity, constant, variable, constants, array, plain, import, local, function, object}
-use Rattle.rules.specs.Tree.{no-exprs, _then_, no-binds, bind, no-params, param, param-or, no-heads, fixed, computed}
+use Rattle.rules.specs.Tree.{Tree, Expr, Exprs, Binds, Params, Heads, Binding, identity, constant, variable, constants, array, plain, import, local, function, object, no-exprs, _then_, no-binds, bind, no-params, param, param-or, no-heads, fixed, computed}
 use Rattle.rules.specs.FirstWalk.{Form, an-identity, a-variable, an-import, Child, level, holder, Groups, tree-at}
 use Rattle.rules.specs.Range.{Numbers, Bytes, Stands, ExprFits, ExprsFit, BindsFit, ParamsFit, HeadsFit, TreeFits}
 use Rattle.rules.specs.State.{Limits, AnalysisStack}
 use Rattle.rules.specs.Walk.{is-among}
 use Rattle.rules.specs.Call.{Lent, Left, limits-of, analyze-root, run, report-of, diagnostics-of, filled, left-by, call, Allows}
-use Rattle.rules.proofs.After.{After, fine, refused, after-weaken, after-bind, after-need, after-ok, both-passed, chosen}
+use Rattle.rules.proofs.After.{After, after-weaken, after-bind, after-need, after-ok, both-passed, chosen, after-self}
 use Rattle.rules.proofs.Accepted.{accepted-fits}
 use Rattle.claim_scope.specs.Scope as scope
 use Rattle.claim_scope.specs.Scope.{Scope, meaning, identity-means, bind-names, param-names, under}
@@ -41,7 +39,7 @@ unfolding FoundsFit
 both-fit [] gs h k = k
 both-fit (f ∷ fs) gs h k = (h .0, both-fit fs gs (h .1) k)
 
--- a span's numbers, and a name before them, behind a code
+-- a span's numbers, and a name before them, after a code
 coded : (code : ℕ) (ns : List ℕ) → code < 4294967296 → Numbers ns → Numbers (code ∷ ns)
 unfolding Numbers
 coded code ns small h = (small, h)
@@ -51,7 +49,7 @@ unfolding given FoundsFit
 given-fits none f h = (h, tt)
 given-fits (some b) f h = tt
 
-stands-numbers : (c : Child) (levels : ℕ) (m : Mark) (form : Form) (ns : List ℕ) → Stands c levels m form ns → Numbers ns
+pub stands-numbers : (c : Child) (levels : ℕ) (m : Mark) (form : Form) (ns : List ℕ) → Stands c levels m form ns → Numbers ns
 unfolding Stands
 stands-numbers (level a) levels m form ns h = h .1 .numbers
 stands-numbers (holder mark n) levels m form ns h = absurd h
@@ -152,17 +150,13 @@ diagnostics-say L t σ fits e =
     let reports = static-check L t σ e in
     ap errors-in (reports .bytes) ∙ read-back (reports .diagnostics) (subst FoundsFit (sym (reports .errors-are)) (tree-errors-fit t fits)) ∙ reports .errors-are
 
-itself : {A : Type 0} (o : Outcome A) → After (λ (a : A). o ≡ ok a) o
-itself (ok a) = fine refl
-itself (refuse number place) = refused
-
 -- of every call that is accepted
 pub checked : (b : Lent) (σ : AnalysisStack) → Bytes (b .tree) → run b ≡ ok σ → Checked b σ
 unfolding run
 checked b σ bytes e = after-ok all e
   where
     all : After (Checked b) (run b)
-    all = after-need _ 13 0 _ λ _. after-need _ 14 0 _ λ _. after-bind _ (itself (tree-at (b .tree))) λ t read. after-weaken (itself (analyze-root (limits-of b) t)) λ τ analysed.
+    all = after-need _ 13 0 _ λ _. after-need _ 14 0 _ λ _. after-bind _ (after-self (tree-at (b .tree))) λ t read. after-weaken (after-self (analyze-root (limits-of b) t)) λ τ analysed.
         let says = diagnostics-say (limits-of b) t τ (accepted-fits (b .tree) t bytes read) analysed in
         record {
           tree = t;

@@ -67,7 +67,7 @@ pub data One (fs : List Found) (seen : List Name) (own : List Key) (p : ℕ) (na
   again : is-among name seen ≡ true → Inside (fs ++ (record { code = 2; name = name; span = span } ∷ [])) own st st′ → One fs seen own p name span st st′
   new : is-among name seen ≡ false → Inside fs (own ++ ((some name, at-record p) ∷ [])) st st′ → One fs seen own p name span st st′
 
--- Several: what each name means behind them, where `start` were there before and the first of a name has it
+-- Several: what each name means after them, where `start` were there before and the first of a name has it
 
 pub record Defines (fs : List Found) (start : List Key) (names : List (Name × Binding)) (st st′ : AnalysisStack) : Type 0 where
   pub own : List Key

@@ -73,7 +73,7 @@ meaning-append n (b ∷ bs) cs = by (same-name n (b .0)) (meaning-append n bs cs
     by true others = refl
     by false others = others
 
--- names defined behind others hide them
+-- names defined after others hide them
 pub meaning-behind : (n : Name) (ks own : List Key) → meaning n (named (ks ++ own) []) ≡ first-of (meaning n (named own [])) (meaning n (named ks []))
 meaning-behind n ks own =
     ap (meaning n) (named-append ks own []) ∙ ap (meaning n) (named-before own (named ks [])) ∙ meaning-append n (named own []) (named ks [])

@@ -7,12 +7,11 @@ use mathlib.Core.Path.{_≡_, refl, sym, ap, _∙_}
 use Rattle.rules.specs.Outcome.{choose, given, ok}
 use Rattle.rules.specs.Numbers.{Name, same-name}
 use Rattle.rules.specs.Records.{Span}
-use Rattle.rules.specs.Tree.{Tree, Expr, Exprs, Binds, Params, Heads, Binding, at-record, external}
-use Rattle.rules.specs.Tree.{identity, constant, variable, constants, array, plain, import, local, function, object}
-use Rattle.rules.specs.Tree.{no-exprs, _then_, no-binds, bind, no-params, param, param-or, no-heads, fixed, computed}
+use Rattle.rules.specs.Tree.{Tree, Expr, Exprs, Binds, Params, Heads, Binding, at-record, external, identity, constant, variable, constants, array, plain, import, local, function, object, no-exprs, _then_, no-binds, bind, no-params, param, param-or, no-heads, fixed, computed}
 use Rattle.rules.specs.State.{Limits, AnalysisStack}
 use Rattle.rules.specs.Walk.{is-among}
 use Rattle.rules.specs.Call.{analyze-root}
+use Rattle.rules.proofs.Outcomes.{chosen-test}
 use Rattle.claim_scope.specs.Scope as scope
 use Rattle.claim_scope.specs.Scope.{Scope, meaning, identity-means, bind-names, param-names, external-names, under}
 use Rattle.claim_scope.specs.StaticCheck.{Found, outside-object, not-bound, not-literal, twice-bound, twice-named, errors, errors-all, errors-binds, errors-params, errors-heads, any-found, root-scope, errors-of}
@@ -240,11 +239,7 @@ externals-among n k (name ∷ names) bs = either (same-name n name) (is-among n 
 
 agrees-root : (names : List Name) → Agrees names false (root-scope names)
 unfolding root-scope present given choose meaning
-agrees-root names = record { among = λ n. bare (is-among n names) ∙ externals-among n 0 names []; inner = refl; outer = refl }
-  where
-    bare : (t : Bool) → t ≡ choose t (λ _. true) (λ _. false)
-    bare true = refl
-    bare false = refl
+agrees-root names = record { among = λ n. chosen-test (is-among n names) ∙ externals-among n 0 names []; inner = refl; outer = refl }
 
 pub passes : (t : Tree) → errors-of t ≡ [] → Passes t
 unfolding errors-of Passes

@@ -4,15 +4,12 @@ use mathlib.Core.List.{List, [], _∷_, _++_}
 use mathlib.Core.Path.{_≡_, refl}
 use Rattle.rules.specs.Outcome.{choose, given}
 use Rattle.rules.specs.Numbers.{Name, same-name}
-use Rattle.rules.specs.Tree.{Tree, Expr, Exprs, Binds, Params, Heads}
-use Rattle.rules.specs.Tree.{identity, constant, variable, constants, array, plain, import, local, function, object}
-use Rattle.rules.specs.Tree.{no-exprs, _then_, no-binds, bind, no-params, param, param-or, no-heads, fixed, computed}
+use Rattle.rules.specs.Tree.{Tree, Expr, Exprs, Binds, Params, Heads, identity, constant, variable, constants, array, plain, import, local, function, object, no-exprs, _then_, no-binds, bind, no-params, param, param-or, no-heads, fixed, computed}
 use Rattle.rules.specs.Walk.{is-among, is-empty}
 use Rattle.claim_scope.specs.Scope as scope
 use Rattle.claim_scope.specs.Scope.{meaning, bind-names, external-names, under}
 use Rattle.claim_scope.specs.StaticCheck.{not-bound, twice-bound, errors, root-scope, errors-of}
-use Rattle.claim_scope.specs.Judgement.{names-of-binds, Different, has-some, Around, Holds, Hold-all, Hold-binds, Hold-params, Hold-heads, Passes, Passes-by-letter}
-use Rattle.claim_scope.specs.Judgement.{Surrounds, Surround-all, Surround-binds, Surround-params, Surround-heads}
+use Rattle.claim_scope.specs.Judgement.{names-of-binds, Different, has-some, Around, Holds, Hold-all, Hold-binds, Hold-params, Hold-heads, Passes, Passes-by-letter, Surrounds, Surround-all, Surround-binds, Surround-params, Surround-heads}
 use Rattle.claim_scope.proofs.Judgement.{passes, no-errors}
 
 mutual

@@ -7,7 +7,7 @@ use mathlib.Core.Path.{_≡_, refl, ap, _∙_}
 use lib.ListN.{length, getD, drop}
 use lib.Dec.{eqb, eqb·suc-zero}
 use Rattle.rules.specs.Outcome.{choose}
-use Rattle.rules.specs.Numbers.{number-at, numbers-at, number-bytes, numbers-bytes, mark-bytes, code, record-bytes}
+use Rattle.rules.specs.Numbers.{number-at, numbers-at, number-bytes, numbers-bytes, mark-bytes, record-bytes}
 use Rattle.rules.specs.Records.{span-numbers, span-in}
 use Rattle.rules.specs.Range.{Numbers}
 use Rattle.rules.specs.Writing.{Level, error, warning, level-number}

@@ -13,8 +13,7 @@ use Rattle.rules.specs.Frames.{ClosureFrame, Resolved, new-frame, top, beneath,
 use Rattle.rules.specs.Settling.{Reference, Round, Loop, propagate-analysis, propagate-use, one-round, Settled, settle, settled}
 use Rattle.rules.specs.State.{Limits, ObjectUse, AnalysisStack, with-locals, with-frames, with-references, with-object-use, with-taint, with-sink, with-out, with-rounds, taken-back}
 use Rattle.rules.specs.Writing.{Level, error, warning, is-error, emit, report, bad-place, open-frame, close-frame}
-use Rattle.rules.specs.Scoping.{first-in-frame, frame-locals, touch-local, touch-object, set-analysis, taint-outer, drop-spec, settle-frame}
-use Rattle.rules.specs.Scoping.{emit-slot, keep-references, record-spec-init, judge, judge-all, finish-frame}
+use Rattle.rules.specs.Scoping.{first-in-frame, frame-locals, touch-local, touch-object, set-analysis, taint-outer, drop-spec, settle-frame, emit-slot, keep-references, record-spec-init, judge, judge-all, finish-frame}
 use Rattle.rules.specs.Walk.{Naming, finish-function}
 use Rattle.rules.proofs.After.{After, fine, after-bind, after-need, after-choose, after-given, chosen}
 use Rattle.claim_scope.specs.StaticCheck.{Found, diagnostic-bytes, diagnostics-bytes, if-error, errors-among, any-found}
@@ -50,7 +49,7 @@ unfolding without-notes with-scratch-referenced key
 keys-without-notes [] = refl
 keys-without-notes (l ∷ ls) = ap (λ (ks : List Key). key l ∷ ks) (keys-without-notes ls)
 
--- the same before a place, and behind it the same names
+-- the same before a place, and after it the same names
 keys-split : (n : ℕ) (ls ms : List LocalDefinition) → map key ms ≡ map key (drop n ls) → map key (take n ls ++ ms) ≡ map key ls
 keys-split n ls ms e =
     map-append key (take n ls) ms ∙ ap (λ (ks : List Key). map key (take n ls) ++ ks) e ∙ sym (map-append key (take n ls) (drop n ls)) ∙ ap (map key) (take-append-drop n ls)

@@ -1,6 +1,6 @@
 -- What several steps of the analysis report and keep together, from what each of them does. Assumes nothing.
 use Prim.Native.Nat.{ℕ}
-use mathlib.Core.Bool.{Bool, true, false, _||_}
+use mathlib.Core.Bool.{Bool, true, false, _||_, or-false}
 use mathlib.Core.List.{List, [], _∷_, _++_, map, append-assoc, append-nil}
 use mathlib.Core.Path.{_≡_, refl, sym, ap, _∙_, subst}
 use lib.ListN.{length}
@@ -36,10 +36,6 @@ unfolding any-found
 any-append true fs gs = refl
 any-append false [] gs = refl
 any-append false (f ∷ fs) gs = refl
-
-or-false : (b : Bool) → (b || false) ≡ b
-or-false true = refl
-or-false false = refl
 
 -- between two sinks just these errors were reported, and perhaps warnings
 pub record Told (fs : List Found) (s s′ : Sink) : Type 0 where
@@ -96,7 +92,7 @@ first-same st st′ e = of (st′ .frames) ∙ ap the-first e ∙ sym (of (st .f
     of [] = refl
     of (f ∷ fs) = refl
 
--- An expression's walk: the names in force are the same behind it, and these errors were reported
+-- An expression's walk: the names in force are the same after it, and these errors were reported
 
 pub record Walked (fs : List Found) (st st′ : AnalysisStack) : Type 0 where
   pub same : keys st′ ≡ keys st
@@ -115,7 +111,7 @@ walked-then h k = record { same = k .same ∙ h .same; frames = k .frames ∙ h 
 pub walked-is : {fs gs : List Found} {st st′ : AnalysisStack} → fs ≡ gs → Walked fs st st′ → Walked gs st st′
 walked-is {st = st} {st′ = st′} e h = subst (λ (x : List Found). Walked x st st′) e h
 
--- a step that reports no error behind a walk
+-- a step that reports no error after a walk
 pub walked-on : {fs : List Found} {st st′ st″ : AnalysisStack} → Walked fs st st′ → Walked [] st′ st″ → Walked fs st st″
 walked-on {fs = fs} h k = walked-is (append-nil fs) (walked-then h k)
 
@@ -125,7 +121,7 @@ after-walked h k = after-weaken k λ _ last. walked-then h last
 pub after-on : {fs : List Found} {st st′ : AnalysisStack} {o : Outcome AnalysisStack} → Walked fs st st′ → After (Walked [] st′) o → After (Walked fs st) o
 after-on h k = after-weaken k λ _ last. walked-on h last
 
--- A frame above a state: its own names stand behind those that were in force
+-- A frame above a state: its own names stand after those that were in force
 
 pub record Inside (fs : List Found) (own : List Key) (st st′ : AnalysisStack) : Type 0 where
   pub names : keys st′ ≡ keys st ++ own

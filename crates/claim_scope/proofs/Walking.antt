@@ -5,13 +5,10 @@ use mathlib.Core.Path.{_≡_, sym, ap, _∙_}
 use lib.ListN.{length}
 use Rattle.rules.specs.Numbers.{TV, AC, AR, LO, OB, BV, PA, FH, FV}
 use Rattle.rules.specs.Depths.{no-dependence}
-use Rattle.rules.specs.Tree.{Expr, Exprs, Binds, Params, Heads, place-of, at-record}
-use Rattle.rules.specs.Tree.{identity, constant, variable, constants, array, plain, import, local, function, object}
-use Rattle.rules.specs.Tree.{no-exprs, _then_, no-binds, bind, no-params, param, param-or, no-heads, fixed, computed}
+use Rattle.rules.specs.Tree.{Expr, Exprs, Binds, Params, Heads, place-of, at-record, identity, constant, variable, constants, array, plain, import, local, function, object, no-exprs, _then_, no-binds, bind, no-params, param, param-or, no-heads, fixed, computed}
 use Rattle.rules.specs.Settling.{propagate-analysis}
 use Rattle.rules.specs.State.{Limits, AnalysisStack, with-taint, written}
-use Rattle.rules.specs.Walk.{Place, Naming, unnamed, bind-naming, first-naming, head-namings, deeper, in-object, is-outermost, entered-use}
-use Rattle.rules.specs.Walk.{analyze, analyze-all, analyze-assertions, analyze-values, analyze-binds, analyze-params, analyze-heads}
+use Rattle.rules.specs.Walk.{Place, Naming, unnamed, bind-naming, first-naming, head-namings, deeper, in-object, is-outermost, entered-use, analyze, analyze-all, analyze-assertions, analyze-values, analyze-binds, analyze-params, analyze-heads}
 use Rattle.rules.proofs.After.{After, fine, after-weaken, after-bind, after-choose}
 use Rattle.claim_scope.specs.Scope as scope
 use Rattle.claim_scope.specs.Scope.{Scope, bind-names, param-names, under}

@@ -135,7 +135,7 @@ diagnostic-numbers = 3 + span-width
 unfoldable pub found-in : List ℕ → Found
 found-in ns = record { code = getD ns 1 0; name = getD ns 2 0; span = span-in ns 3 }
 
--- what one record's numbers say, before what those behind it say
+-- what one record's numbers say, before what those after it say
 unfoldable pub said-before : List ℕ → List Found → List Found
 said-before ns fs = choose (eqb (getD ns 0 0) 0) (λ _. found-in ns ∷ fs) (λ _. fs)
 

@@ -18,7 +18,7 @@ use Rattle.table_captures.specs.declared.Capture.{Capture}
 use Rattle.table_captures.specs.declared.CaptureSlot.{CaptureSlot}
 use Rattle.table_captures.proofs.Laws.{eq-or-not, log-at-is, captures-start, captures-step, captures-mine, captures-other, captures-more, length-mine}
 use Rattle.find_capture.specs.Answers.{Searched}
-use Rattle.find_capture.specs.declared.Found.the-variants.{At, Nothing}
+use Rattle.find_capture.specs.declared.FoundCapture.the-variants.{At, Nothing}
 
 pub captures-few : (o n : ℕ) (t : List ℕ) → length (captures-of o n t) ≤ n
 captures-few o zero t = rw (captures-start o t) (omega arith)

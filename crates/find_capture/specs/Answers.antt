@@ -6,21 +6,21 @@ use Prim.Native.Nat.{ℕ, _-_, _≤_, _<_}
 use lib.ListN.{length}
 use Rattle.rules.specs.Frames as rules
 use Rattle.table_captures.specs.Meaning.{slot, logged-at, captures-of}
-use Rattle.find_capture.specs.declared.Found.{Found}
-use Rattle.find_capture.specs.declared.Found.the-variants as found-is
+use Rattle.find_capture.specs.declared.FoundCapture.{FoundCapture}
+use Rattle.find_capture.specs.declared.FoundCapture.the-variants as found-is
 use Rattle.find_capture.specs.declared.Next.{Next}
 use Rattle.find_capture.specs.declared.Next.the-variants as next-is
 
-abbrev pub found : Found → Option ℕ
+abbrev pub found : FoundCapture → Option ℕ
 found (found-is.At k) = some (k .0)
 found (found-is.Nothing k) = none
 
-abbrev pub Counts : Found → ℕ → Type 0
+abbrev pub Counts : FoundCapture → ℕ → Type 0
 Counts (found-is.At k) n = k .0 < n
 Counts (found-is.Nothing k) n = k ≡ n
 
 -- an id looked for among a frame's captures
-pub record Searched (r : Found) (captures : List ℕ) (owner count id : ℕ) : Type 0 where
+pub record Searched (r : FoundCapture) (captures : List ℕ) (owner count id : ℕ) : Type 0 where
   pub same : found r ≡ rules.capture-of id 0 (captures-of owner count captures)
   pub counts : Counts r (length (captures-of owner count captures))
 

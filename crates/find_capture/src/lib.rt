@@ -13,7 +13,7 @@ use table_captures::target_at;
 use value_local::LocalId;
 
 // A capture's slot in its frame, or how many others the frame has.
-pub enum Found {
+pub enum FoundCapture {
     At(CaptureSlot),
     Nothing(u32),
 }
@@ -25,8 +25,9 @@ pub enum Next {
 }
 
 // The owner's capture of an id, where it has one; none of its captures stands before `from`.
-pub fn capture_of(captures: &[u32], from: u32, count: u32, owner: u32, id: LocalId) -> Found
-    requires { ⌜ (16 * count ≤ length (now captures)) × (from ≤ count) × (captures-of owner from (now captures) ≡ []) × (length (captures-of owner count (now captures)) ≤ 65536) ⌝ }
+pub fn capture_of(captures: &[u32], from: u32, count: u32, owner: u32, id: LocalId) -> FoundCapture
+    requires { ⌜ (16 * count ≤ length (now captures)) × (from ≤ count) × (captures-of owner from (now captures) ≡ []) ×
+        (length (captures-of owner count (now captures)) ≤ 65536) ⌝ }
     ensures { λ r. ⌜ Searched r (now (captures .entry)) owner count (id .0) ⌝ }
 {
     let mut k: u32 = 0;
@@ -35,13 +36,13 @@ pub fn capture_of(captures: &[u32], from: u32, count: u32, owner: u32, id: Local
         if owner_at(captures, i) == owner {
             let target = target_at(captures, i);
             if target.0 == id.0 {
-                return Found::At(CaptureSlot(k as u16));
+                return FoundCapture::At(CaptureSlot(k as u16));
             }
             k += 1;
         }
         i += 1;
     }
-    Found::Nothing(k)
+    FoundCapture::Nothing(k)
 }
 
 // How many captures the owner has; none stands before `from`.

@@ -16,7 +16,8 @@ use Rattle.table_rows.proofs.Laws.{row-at}
 use Rattle.value_local.specs.Meaning.{named}
 use Rattle.table_locals.specs.Meaning.{local-of-row, locals-of}
 use Rattle.table_locals.proofs.Fours.{four-tests}
-use Rattle.table_locals.proofs.Laws.{set-not-zero, locals-at}
+use Rattle.table_locals.proofs.Laws.{locals-at}
+use Rattle.rules.proofs.Flags.{set-of}
 use Rattle.find_name.specs.Answers.{NoneNamed}
 
 -- An entry's name
@@ -47,7 +48,7 @@ module _ (name k : ℕ) (t : List ℕ) where
 
   this-name : (flag-number ≡ 0 → ⊥) → name-number ≡ name → has-name name (local-of-row (row k t)) ≡ true
   unfolding given named same-name
-  this-name h e = name-read ∙ rw (set-not-zero flag-number h) (eq-eqb name name-number (sym e))
+  this-name h e = name-read ∙ rw (set-of h) (eq-eqb name name-number (sym e))
 
 -- The search
 

@@ -34,7 +34,8 @@ fn none_named(locals: &[u32], name: u32, from: usize) -> bool
 // How many of the n locals from `first` on are left to search, once four at a time are passed of which none has the name.
 fn left_to_search(locals: &[u32], name: u32, first: usize, n: usize) -> usize
     requires { ⌜ (16 * (first + n) ≤ length (now locals)) × (first + n ≤ 4294967296) ⌝ }
-    ensures { λ r. ⌜ (r ≤ n) × ((total : ℕ) → first + n ≤ total → newest name (locals-of total (now (locals .entry))) first n ≡ newest name (locals-of total (now (locals .entry))) first r) ⌝ }
+    ensures { λ r. ⌜ (r ≤ n) × ((total : ℕ) → first + n ≤ total → newest name (locals-of total (now (locals .entry)))
+        first n ≡ newest name (locals-of total (now (locals .entry))) first r) ⌝ }
 {
     let mut left = n;
     while 4 <= left {

@@ -118,7 +118,7 @@ fn same_report(call: u32, head: &[u8], r: AnalysisReport) -> bool {
     same_depths(call, a, head, depths)
 }
 
-// A buffer holds the stored bytes and behind them zeros.
+// A buffer holds the stored bytes and after them zeros.
 fn same_buffer(
     call: u32,
     agreed: bool,
@@ -203,7 +203,7 @@ fn replay_lent(
     references: &mut [u32],
 ) -> bool {
     let limits = limits_of(head);
-    let r = analyze::analyze(
+    let r = analyze::analyze_root(
         tree,
         out,
         diagnostics,
@@ -303,7 +303,7 @@ fn say(text: &[u8], n: u64) {
     io::write_all(STDOUT_FILENO, b"\n");
 }
 
-// How many of the next calls are answered as stored; the others are printed. Behind a missing one nothing can be read.
+// How many of the next calls are answered as stored; the others are printed. After a missing one nothing can be read.
 fn replay_all(count: u32) -> u64 {
     let mut same: u64 = 0;
     for i in 0..count {

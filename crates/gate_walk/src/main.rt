@@ -2,7 +2,7 @@
 use bytes_read::number_at;
 use libc::STDIN_FILENO;
 use libc::STDOUT_FILENO;
-use tree::Walk;
+use tree::FirstWalk;
 
 // What became of one stored byte string.
 enum Replay {
@@ -22,8 +22,8 @@ fn judge(bytes: &[u8], size: usize, number: u32, place: u32) -> Replay {
     }
     let walk = tree::first_walk(&bytes[..size]);
     match walk {
-        Walk::Past(_) => told(number == 0),
-        Walk::Refused(n, p) => told(n == number && p == place as usize),
+        FirstWalk::Past(_) => told(number == 0),
+        FirstWalk::Refused(n, p) => told(n == number && p == place as usize),
     }
 }
 

@@ -1,22 +1,20 @@
 -- What the steps ask of a walker that calls them, from what the walker itself was asked. Assumes nothing.
-use Prim.Native.Nat.{ℕ, zero, suc, _+_, _-_, _*_, _<_, _≤_}
+use Prim.Native.Nat.{ℕ, zero, suc, _+_, _<_, _≤_}
 use native.Mathlib.Omega.{arith}
 use mathlib.Core.Bool.{Bool, true, false}
-use mathlib.Core.List.{List, [], _∷_}
-use mathlib.Core.Option.{some}
+use mathlib.Core.List.{List}
 use mathlib.Core.Path.{_≡_, refl, sym, _∙_, ap, subst}
-use lib.ListN.{length, take, length-take}
+use lib.ListN.{length, length-take}
 use Rattle.rules.specs.Numbers.{number-at, is-set}
 use Rattle.rules.specs.State as rules
 use Rattle.rules.specs.Writing.{open-frame}
-use Rattle.table_locals.specs.Meaning.{locals-of}
 use Rattle.table_locals.proofs.Laws.{length-locals}
 use Rattle.table_references.specs.Meaning.{references-of}
 use Rattle.table_references.proofs.Keeping.{length-references}
 use Rattle.settling.specs.Meaning.{Below}
 use Rattle.law_steady.specs.Steady.{Sound}
 use Rattle.law_runs.specs.Steps.{first-defaults}
-use Rattle.state.specs.Seen.{Buffers, buffers, stack, limits-of, Fit}
+use Rattle.state.specs.Seen.{Buffers, buffers, stack, Fit}
 use Rattle.state.specs.Walks.{place-of, id-if, Stands, Steps}
 use Rattle.state.specs.declared.AnalysisStack.{AnalysisStack}
 use Rattle.state.specs.declared.Limits.{Limits}
@@ -25,7 +23,7 @@ use Rattle.state.specs.declared.Step.{Step}
 use Rattle.step_frame.specs.Answers.{FrameOpened}
 use Rattle.step_declare.specs.Answers.{Fitting}
 use Rattle.step_judge.specs.Answers.{Settleable}
-use Rattle.law_joins.specs.Ready.{Within, Ready}
+use Rattle.law_joins.specs.Ready.{Ready}
 
 -- an opened frame as a step
 pub opened : {r : Step} {l : Limits} {out diagnostics locals frames frames′ captures references : List ℕ} {st : AnalysisStack} {place : ℕ} {is-defining : Bool}

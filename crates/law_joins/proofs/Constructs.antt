@@ -1,10 +1,10 @@
 -- Each record's walk from the walks and steps that it is made of, up to the first refusal or to its end. Assumes nothing.
-use Prim.Native.Nat.{ℕ, zero, suc, _+_, _-_, _*_, _<_, _≤_}
-use mathlib.Core.Bool.{Bool, true, false}
+use Prim.Native.Nat.{ℕ, _+_, _-_}
+use mathlib.Core.Bool.{true, false}
 use mathlib.Core.List.{List, [], _∷_}
-use mathlib.Core.Path.{_≡_, refl, sym, _∙_, ap, subst}
+use mathlib.Core.Path.{_≡_, sym}
 use lib.ListN.{length}
-use Rattle.rules.specs.Outcome.{Outcome, ok, refuse, _>>=_, choose}
+use Rattle.rules.specs.Outcome.{Outcome, _>>=_}
 use Rattle.rules.specs.Depths.{no-dependence}
 use Rattle.rules.specs.Numbers.{number-at, is-set, Mark, BV, PA}
 use Rattle.rules.specs.Settling.{propagate-analysis}
@@ -12,13 +12,11 @@ use Rattle.rules.specs.State as rules
 use Rattle.rules.specs.Writing.{open-frame}
 use Rattle.rules.specs.Scoping.{settle-frame}
 use Rattle.rules.specs.Walk as walk
+use Rattle.rules.proofs.Outcomes.{bind-ext, bind-assoc, chosen-true, chosen-false}
 use Rattle.law_runs.specs.Run.{run-expr, run-items, run-assertions, run-values, run-heads, run-binds, run-params, heads-at}
-use Rattle.law_runs.specs.Steps.{begun-local, finished-local, local-steps, array-steps, closed-array, assertions-steps, closed-assertions, value-steps, closed-value, head-naming-at}
-use Rattle.law_runs.specs.Steps.{opened-value, closed-spec, recorded, bind-steps, bind-naming-at, param-steps, begun-function, finished-function, function-steps, span-at, first-defaults}
-use Rattle.law_runs.specs.Steps.{begun-object, finished-object, object-steps, plain-steps, copied, head-steps, head-written}
+use Rattle.law_runs.specs.Steps.{begun-local, finished-local, local-steps, array-steps, closed-array, assertions-steps, closed-assertions, value-steps, closed-value, head-naming-at, opened-value, closed-spec, recorded, bind-steps, bind-naming-at, param-steps, begun-function, finished-function, function-steps, span-at, first-defaults, begun-object, finished-object, object-steps, plain-steps, copied, head-steps, head-written}
 use Rattle.law_joins.specs.Ready.{static-of, members-steps, fields-steps}
-use Rattle.law_runs.proofs.Reading.{bind-ext, bind-assoc}
-use Rattle.state.specs.Seen.{Buffers, stack, limits-of, Fit}
+use Rattle.state.specs.Seen.{Buffers, stack}
 use Rattle.state.specs.Walks.{Walks, Walks-specs, Steps, Becomes}
 use Rattle.state.specs.declared.AnalysisStack.{AnalysisStack}
 use Rattle.state.specs.declared.Limits.{Limits}
@@ -28,18 +26,9 @@ use Rattle.state.specs.declared.Walked.{Walked}
 use Rattle.state.specs.declared.Walked.the-variants as walked-as
 use Rattle.state.specs.declared.Specs.{Specs}
 use Rattle.state.specs.declared.Specs.the-variants as specs-as
-use Rattle.law_joins.proofs.Joining.{Long, walks-as, step-stops, walk-stops, specs-stop, step-then, walk-then, specs-then, becomes-then}
-use Rattle.law_joins.proofs.Joining.{specs-as-well, step-stops-specs, walk-stops-specs, step-then-specs, walk-then-specs}
+use Rattle.law_joins.proofs.Joining.{Long, walks-as, step-stops, walk-stops, specs-stop, step-then, walk-then, specs-then, becomes-then, specs-as-well, step-stops-specs, walk-stops-specs, step-then-specs, walk-then-specs}
 
 -- which way a parameter, a head and an object's members go
-
-chosen-true : {A : Type 0} {t : Bool} (x y : Unit {0} → A) → t ≡ true → choose t x y ≡ x tt
-unfolding choose
-chosen-true x y e = ap (λ (t : Bool). choose t x y) e
-
-chosen-false : {A : Type 0} {t : Bool} (x y : Unit {0} → A) → t ≡ false → choose t x y ≡ y tt
-unfolding choose
-chosen-false x y e = ap (λ (t : Bool). choose t x y) e
 
 module _ (s : List ℕ) where
   -- how a parameter with a default ends, by the state at its begin
@@ -205,7 +194,7 @@ module _ (s : List ℕ) (levels p : ℕ) (ν : walk.Naming) (h : walk.Place) {l 
       unfolding function-steps
       function-ends e k finished = walk-then _ begun e₁ k₁ (specs-then _ params e₂ k₂ (becomes-then (λ L σ σ₁. run-expr s L levels body walk.unnamed (walk.deeper h) σ₁ >>= function-ending L σ) settled k₃ (walk-then (λ L σ. function-ending L (stack b₂ st₂)) within e k finished)))
 
--- `OB`: its heads, and what stands behind them
+-- `OB`: its heads, and what stands after them
 module _ (s : List ℕ) (nest p : ℕ) (h : walk.Place) {l : Limits} {b b₁ : Buffers} {st : AnalysisStack} {r₁ : Walked} (heads : Walks r₁ l b b₁ st (λ L σ. run-heads s L (nest - 1) (number-at s (p + 10)) (p + 14) h σ)) where
   abbrev pub whole-object : rules.Limits → rules.AnalysisStack → Outcome (rules.AnalysisStack × ℕ)
   whole-object L σ = object-steps L s (static-of (heads-at s (nest - 1) (number-at s (p + 10)) (p + 14))) (nest - 1) p h σ

@@ -1,10 +1,10 @@
 -- Walks and steps one after another: the second goes on where the first ended, and the first refusal is the whole's. Assumes nothing.
 use Prim.Native.Nat.{ℕ}
-use mathlib.Core.List.{List}
-use mathlib.Core.Path.{_≡_, refl, sym, _∙_, ap, ap₂, subst}
+use mathlib.Core.Path.{_≡_, sym, _∙_, ap, ap₂, subst}
 use lib.ListN.{length}
-use Rattle.rules.specs.Outcome.{Outcome, ok, refuse, _>>=_}
+use Rattle.rules.specs.Outcome.{Outcome, ok, _>>=_}
 use Rattle.rules.specs.State as rules
+use Rattle.rules.proofs.Outcomes.{bind-fine, bind-refused}
 use Rattle.state.specs.Seen.{Buffers, stack, seen, limits-of, Fit, Fits}
 use Rattle.state.specs.Walks.{walked, specs, Walked-fits, Specs-fits, Walks, Walks-specs, Steps, Becomes}
 use Rattle.state.specs.declared.AnalysisStack.{AnalysisStack}
@@ -15,7 +15,7 @@ use Rattle.state.specs.declared.Walked.{Walked}
 use Rattle.state.specs.declared.Walked.the-variants as walked-as
 use Rattle.state.specs.declared.Specs.{Specs}
 use Rattle.state.specs.declared.Specs.the-variants as specs-as
-use Rattle.law_joins.specs.Ready.{not-opened, no-value, no-spec, not-kept}
+use Rattle.state.specs.Converting.{walked-to, specs-to, none-kept, walked-past}
 
 -- both buffers whose lengths are limits are as long as before
 pub record Long (b b′ : Buffers) : Type 0 where
@@ -30,21 +30,21 @@ limits-kept l k =
 
 -- a refusal is told on as it is
 
-pub unopened : {r : Walked} {step : Step} {number place : ℕ} → r ≡ not-opened step → step ≡ step-as.Refused number place → r ≡ walked-as.Refused number place
-unfolding not-opened
-unopened e k = e ∙ ap not-opened k
+pub unopened : {r : Walked} {step : Step} {number place : ℕ} → r ≡ walked-to 0 step → step ≡ step-as.Refused number place → r ≡ walked-as.Refused number place
+unfolding walked-to
+unopened e k = e ∙ ap (walked-to 0) k
 
-pub valueless : {r : Specs} {step : Step} {number place : ℕ} → r ≡ no-value step → step ≡ step-as.Refused number place → r ≡ specs-as.Refused number place
-unfolding no-value
-valueless e k = e ∙ ap no-value k
+pub valueless : {r : Specs} {step : Step} {number place : ℕ} → r ≡ specs-to 0 0 step → step ≡ step-as.Refused number place → r ≡ specs-as.Refused number place
+unfolding specs-to
+valueless e k = e ∙ ap (specs-to 0 0) k
 
-pub specless : {r : Specs} {w : Walked} {number place : ℕ} → r ≡ no-spec w → w ≡ walked-as.Refused number place → r ≡ specs-as.Refused number place
-unfolding no-spec
-specless e k = e ∙ ap no-spec k
+pub specless : {r : Specs} {w : Walked} {number place : ℕ} → r ≡ none-kept w → w ≡ walked-as.Refused number place → r ≡ specs-as.Refused number place
+unfolding none-kept
+specless e k = e ∙ ap none-kept k
 
-pub unkept : {r : Walked} {w : Specs} {number place : ℕ} → r ≡ not-kept w → w ≡ specs-as.Refused number place → r ≡ walked-as.Refused number place
-unfolding not-kept
-unkept e k = e ∙ ap not-kept k
+pub unkept : {r : Walked} {w : Specs} {number place : ℕ} → r ≡ walked-past w → w ≡ specs-as.Refused number place → r ≡ walked-as.Refused number place
+unfolding walked-past
+unkept e k = e ∙ ap walked-past k
 
 -- a refusal may leave the buffers as they are
 pub refused-fits : (l : Limits) (b : Buffers) {r : Walked} {number place : ℕ} → r ≡ walked-as.Refused number place → Walked-fits l r b
@@ -62,14 +62,6 @@ Answer = rules.AnalysisStack × ℕ
 
 abbrev pub Kept-answer : Type 0
 Kept-answer = ℕ × (rules.AnalysisStack × ℕ)
-
-bound : {A B : Type 0} {o : Outcome A} {a : A} (f : A → Outcome B) → o ≡ ok a → (o >>= f) ≡ f a
-unfolding _>>=_
-bound {A = A} f e = ap (λ (o : Outcome A). o >>= f) e
-
-stopped : {A B : Type 0} {o : Outcome A} {number place : ℕ} (f : A → Outcome B) → o ≡ refuse number place → (o >>= f) ≡ refuse number place
-unfolding _>>=_
-stopped {A = A} f e = ap (λ (o : Outcome A). o >>= f) e
 
 module _ {l : Limits} {b b₁ : Buffers} {st : AnalysisStack} where
   -- Another way to say the same
@@ -107,35 +99,35 @@ module _ {l : Limits} {b b₁ : Buffers} {st : AnalysisStack} where
   pub step-stops : (g : rules.Limits → rules.AnalysisStack → rules.AnalysisStack → Outcome Answer) {r : Step} {r′ : Walked} {f : Going rules.AnalysisStack} {number place : ℕ}
       → Steps r l b b₁ st f → r ≡ step-as.Refused number place → r′ ≡ walked-as.Refused number place → Walks r′ l b b₁ st (λ L σ. f L σ >>= g L σ)
   step-stops g w e e′ = record {
-    same = λ L eL. ap (λ (r : Walked). walked r b₁) e′ ∙ sym (stopped (g L (stack b st)) (sym (w .same L eL) ∙ ap (λ (r : Step). seen r b₁) e));
+    same = λ L eL. ap (λ (r : Walked). walked r b₁) e′ ∙ sym (bind-refused (g L (stack b st)) (sym (w .same L eL) ∙ ap (λ (r : Step). seen r b₁) e));
     fit = refused-fits l b₁ e′;
   }
 
   pub step-stops-specs : (g : rules.Limits → rules.AnalysisStack → rules.AnalysisStack → Outcome Kept-answer) {r : Step} {r′ : Specs} {f : Going rules.AnalysisStack} {number place : ℕ}
       → Steps r l b b₁ st f → r ≡ step-as.Refused number place → r′ ≡ specs-as.Refused number place → Walks-specs r′ l b b₁ st (λ L σ. f L σ >>= g L σ)
   step-stops-specs g w e e′ = record {
-    same = λ L eL. ap (λ (r : Specs). specs r b₁) e′ ∙ sym (stopped (g L (stack b st)) (sym (w .same L eL) ∙ ap (λ (r : Step). seen r b₁) e));
+    same = λ L eL. ap (λ (r : Specs). specs r b₁) e′ ∙ sym (bind-refused (g L (stack b st)) (sym (w .same L eL) ∙ ap (λ (r : Step). seen r b₁) e));
     fit = refused-specs-fit l b₁ e′;
   }
 
   pub walk-stops : (g : rules.Limits → rules.AnalysisStack → Answer → Outcome Answer) {r r′ : Walked} {f : Going Answer} {number place : ℕ}
       → Walks r l b b₁ st f → r ≡ walked-as.Refused number place → r′ ≡ walked-as.Refused number place → Walks r′ l b b₁ st (λ L σ. f L σ >>= g L σ)
   walk-stops g w e e′ = record {
-    same = λ L eL. ap (λ (r : Walked). walked r b₁) e′ ∙ sym (stopped (g L (stack b st)) (sym (w .same L eL) ∙ ap (λ (r : Walked). walked r b₁) e));
+    same = λ L eL. ap (λ (r : Walked). walked r b₁) e′ ∙ sym (bind-refused (g L (stack b st)) (sym (w .same L eL) ∙ ap (λ (r : Walked). walked r b₁) e));
     fit = refused-fits l b₁ e′;
   }
 
   pub walk-stops-specs : (g : rules.Limits → rules.AnalysisStack → Answer → Outcome Kept-answer) {r : Walked} {r′ : Specs} {f : Going Answer} {number place : ℕ}
       → Walks r l b b₁ st f → r ≡ walked-as.Refused number place → r′ ≡ specs-as.Refused number place → Walks-specs r′ l b b₁ st (λ L σ. f L σ >>= g L σ)
   walk-stops-specs g w e e′ = record {
-    same = λ L eL. ap (λ (r : Specs). specs r b₁) e′ ∙ sym (stopped (g L (stack b st)) (sym (w .same L eL) ∙ ap (λ (r : Walked). walked r b₁) e));
+    same = λ L eL. ap (λ (r : Specs). specs r b₁) e′ ∙ sym (bind-refused (g L (stack b st)) (sym (w .same L eL) ∙ ap (λ (r : Walked). walked r b₁) e));
     fit = refused-specs-fit l b₁ e′;
   }
 
   pub specs-stop : (g : rules.Limits → rules.AnalysisStack → Kept-answer → Outcome Answer) {r : Specs} {r′ : Walked} {f : Going Kept-answer} {number place : ℕ}
       → Walks-specs r l b b₁ st f → r ≡ specs-as.Refused number place → r′ ≡ walked-as.Refused number place → Walks r′ l b b₁ st (λ L σ. f L σ >>= g L σ)
   specs-stop g w e e′ = record {
-    same = λ L eL. ap (λ (r : Walked). walked r b₁) e′ ∙ sym (stopped (g L (stack b st)) (sym (w .same L eL) ∙ ap (λ (r : Specs). specs r b₁) e));
+    same = λ L eL. ap (λ (r : Walked). walked r b₁) e′ ∙ sym (bind-refused (g L (stack b st)) (sym (w .same L eL) ∙ ap (λ (r : Specs). specs r b₁) e));
     fit = refused-fits l b₁ e′;
   }
 
@@ -145,35 +137,35 @@ module _ {l : Limits} {b b₁ : Buffers} {st : AnalysisStack} where
     pub step-then : (g : rules.Limits → rules.AnalysisStack → rules.AnalysisStack → Outcome Answer) {r : Step} {r′ : Walked} {f : Going rules.AnalysisStack}
         → Steps r l b b₁ st f → r ≡ step-as.Ok st₁ → Long b b₁ → Walks r′ l b₁ b₂ st₁ (λ L σ. g L (stack b st) σ) → Walks r′ l b b₂ st (λ L σ. f L σ >>= g L σ)
     step-then g w e k v = record {
-      same = λ L eL. v .same L (eL ∙ limits-kept l k) ∙ sym (bound (g L (stack b st)) (stepped w e L eL));
+      same = λ L eL. v .same L (eL ∙ limits-kept l k) ∙ sym (bind-fine (g L (stack b st)) (stepped w e L eL));
       fit = v .fit;
     }
 
     pub step-then-specs : (g : rules.Limits → rules.AnalysisStack → rules.AnalysisStack → Outcome Kept-answer) {r : Step} {r′ : Specs} {f : Going rules.AnalysisStack}
         → Steps r l b b₁ st f → r ≡ step-as.Ok st₁ → Long b b₁ → Walks-specs r′ l b₁ b₂ st₁ (λ L σ. g L (stack b st) σ) → Walks-specs r′ l b b₂ st (λ L σ. f L σ >>= g L σ)
     step-then-specs g w e k v = record {
-      same = λ L eL. v .same L (eL ∙ limits-kept l k) ∙ sym (bound (g L (stack b st)) (stepped w e L eL));
+      same = λ L eL. v .same L (eL ∙ limits-kept l k) ∙ sym (bind-fine (g L (stack b st)) (stepped w e L eL));
       fit = v .fit;
     }
 
     pub walk-then : (g : rules.Limits → rules.AnalysisStack → Answer → Outcome Answer) {r r′ : Walked} {f : Going Answer} {q : ℕ}
         → Walks r l b b₁ st f → r ≡ walked-as.To st₁ q → Long b b₁ → Walks r′ l b₁ b₂ st₁ (λ L σ. g L (stack b st) (σ, q)) → Walks r′ l b b₂ st (λ L σ. f L σ >>= g L σ)
     walk-then g w e k v = record {
-      same = λ L eL. v .same L (eL ∙ limits-kept l k) ∙ sym (bound (g L (stack b st)) (went w e L eL));
+      same = λ L eL. v .same L (eL ∙ limits-kept l k) ∙ sym (bind-fine (g L (stack b st)) (went w e L eL));
       fit = v .fit;
     }
 
     pub walk-then-specs : (g : rules.Limits → rules.AnalysisStack → Answer → Outcome Kept-answer) {r : Walked} {r′ : Specs} {f : Going Answer} {q : ℕ}
         → Walks r l b b₁ st f → r ≡ walked-as.To st₁ q → Long b b₁ → Walks-specs r′ l b₁ b₂ st₁ (λ L σ. g L (stack b st) (σ, q)) → Walks-specs r′ l b b₂ st (λ L σ. f L σ >>= g L σ)
     walk-then-specs g w e k v = record {
-      same = λ L eL. v .same L (eL ∙ limits-kept l k) ∙ sym (bound (g L (stack b st)) (went w e L eL));
+      same = λ L eL. v .same L (eL ∙ limits-kept l k) ∙ sym (bind-fine (g L (stack b st)) (went w e L eL));
       fit = v .fit;
     }
 
     pub specs-then : (g : rules.Limits → rules.AnalysisStack → Kept-answer → Outcome Answer) {r : Specs} {r′ : Walked} {f : Going Kept-answer} {q kept : ℕ}
         → Walks-specs r l b b₁ st f → r ≡ specs-as.To st₁ q kept → Long b b₁ → Walks r′ l b₁ b₂ st₁ (λ L σ. g L (stack b st) (kept, (σ, q))) → Walks r′ l b b₂ st (λ L σ. f L σ >>= g L σ)
     specs-then g w e k v = record {
-      same = λ L eL. v .same L (eL ∙ limits-kept l k) ∙ sym (bound (g L (stack b st)) (kept-on w e L eL));
+      same = λ L eL. v .same L (eL ∙ limits-kept l k) ∙ sym (bind-fine (g L (stack b st)) (kept-on w e L eL));
       fit = v .fit;
     }
 

@@ -1,27 +1,26 @@
--- From a walk's answer to what the next walk asks: the state it leaves is ready at the place behind. Assumes nothing.
-use Prim.Native.Nat.{ℕ, zero, suc, _+_, _-_, _*_, _<_, _≤_}
+-- From a walk's answer to what the next walk asks: the state it leaves is ready at the place after. Assumes nothing.
+use Prim.Native.Nat.{ℕ, _+_, _-_, _<_, _≤_}
 use native.Mathlib.Omega.{arith}
-use mathlib.Core.Bool.{Bool, true, false}
-use mathlib.Core.List.{List, [], _∷_, _++_}
+use mathlib.Core.Bool.{Bool, false}
+use mathlib.Core.List.{List}
 use mathlib.Core.Option.{Option, none, some}
 use mathlib.Core.Path.{_≡_, refl, sym, _∙_, ap, subst}
-use lib.ListN.{length, take, length-append, length-take}
-use Rattle.rules.specs.Outcome.{Outcome, ok, refuse, _>>=_, given}
+use lib.ListN.{length, length-append, length-take}
+use Rattle.rules.specs.Outcome.{given}
 use Rattle.rules.specs.Depths.{no-dependence}
-use Rattle.rules.specs.FirstWalk.{any-expression, expr-at}
 use Rattle.rules.specs.Settling.{Reference, propagate-analysis}
 use Rattle.rules.specs.State as rules
 use Rattle.rules.specs.Writing.{open-frame}
 use Rattle.rules.specs.Scoping.{settle-frame}
 use Rattle.rules.specs.Walk as walk
 use Rattle.rules.proofs.After.{After, after-ok, after-bind, after-weaken}
-use Rattle.law_runs.specs.Run.{Accepted, run-expr, run-items, run-assertions, run-values, run-heads, run-binds, run-params, items-at, binds-at, params-at, heads-at}
+use Rattle.law_runs.specs.Run.{run-expr, run-assertions, run-heads, run-binds, run-params}
 use Rattle.law_runs.specs.Steps.{begun-local, begun-function, begun-object, opened-value}
 use Rattle.law_steady.specs.Steady.{Begins}
 use Rattle.law_steady.specs.Passed.{Passed, Passed-specs}
-use Rattle.law_steady.proofs.Places.{passed-expr, passed-items, passed-assertions, passed-values, passed-heads, passed-binds, passed-params}
+use Rattle.law_steady.proofs.Places.{passed-expr, passed-assertions, passed-values, passed-heads, passed-binds, passed-params}
 use Rattle.law_steady.proofs.Steps.{steady-settle, analysis-keeps}
-use Rattle.state.specs.Seen.{Buffers, stack, limits-of, Fit}
+use Rattle.state.specs.Seen.{Buffers, stack, Fit}
 use Rattle.state.specs.Walks.{place-of, Walks, Walks-specs, Steps, Becomes}
 use Rattle.state.specs.declared.AnalysisStack.{AnalysisStack}
 use Rattle.state.specs.declared.Limits.{Limits}
@@ -34,7 +33,7 @@ use Rattle.state.specs.declared.Specs.{Specs}
 use Rattle.state.specs.declared.Specs.the-variants as specs-as
 use Rattle.law_joins.specs.Ready.{Within, Ready, fields-steps}
 use Rattle.law_joins.proofs.Joining.{stepped, stepped-fit, went, went-fit, kept-on, kept-fit}
-use Rattle.law_joins.proofs.Readiness.{Alike, alike-taint, within-more, opened-alike, begun-local-alike, begun-function-alike, begun-object-alike, ready-passed, ready-specs, ready-alike, ready-on, ready-body, Specced, specced}
+use Rattle.law_joins.proofs.Readiness.{alike-taint, within-more, opened-alike, begun-local-alike, begun-function-alike, begun-object-alike, ready-passed, ready-specs, ready-alike, ready-on, ready-body, Specced, specced}
 
 some-same : {m n : ℕ} → some m ≡ some n → m ≡ n
 unfolding given
@@ -55,9 +54,6 @@ module _ {l : Limits} {s : List ℕ} {nest : ℕ} {h : Place} {b b₁ : Buffers}
   module _ {p : ℕ} (ready : Ready l b st s p nest h) {r : Walked} {st₁ : AnalysisStack} {q : ℕ} where
     pub ready-expr : (levels : ℕ) (ν : walk.Naming) (at : walk.Place) → Walks r l b b₁ st (λ L σ. run-expr s L levels p ν at σ) → r ≡ walked-as.To st₁ q → Ready l b₁ st₁ s q nest h
     ready-expr levels ν at w e = ready-passed ready (after-ok (passed-expr s _ levels p ν at (stack b st)) (went w e _ refl)) (went-fit w e)
-
-    pub ready-items : (levels n : ℕ) (at : walk.Place) → Walks r l b b₁ st (λ L σ. run-items s L levels n p at σ) → r ≡ walked-as.To st₁ q → Ready l b₁ st₁ s q nest h
-    ready-items levels n at w e = ready-passed ready (after-ok (passed-items s _ levels n p at (stack b st)) (went w e _ refl)) (went-fit w e)
 
     pub ready-assertions : (levels n : ℕ) (at : walk.Place) → Walks r l b b₁ st (λ L σ. run-assertions s L levels n p at σ) → r ≡ walked-as.To st₁ q → Ready l b₁ st₁ s q nest h
     ready-assertions levels n at w e = ready-passed ready (after-ok (passed-assertions s _ levels n p at (stack b st)) (went w e _ refl)) (went-fit w e)
@@ -117,7 +113,7 @@ module _ {l : Limits} {s : List ℕ} {nest : ℕ} {h : Place} {b₁ b₂ : Buffe
   pub framed-params : (levels : ℕ) → {r : Specs} → Walks-specs r l b₁ b₂ st₁ (λ L σ. run-params s L levels n p 0 (place-of h) σ) → r ≡ specs-as.To st₂ q kept → Framed l s nest h n kept q before b₂ st₂
   framed-params levels w e = framed (after-ok (passed-params s _ levels n p 0 (place-of h) (stack b₁ st₁)) (kept-on w e _ refl)) (kept-fit w e)
 
--- the body, behind the first loop
+-- the body, after the first loop
 module _ {l : Limits} {s : List ℕ} {nest : ℕ} {h : Place} {b₂ b₃ : Buffers} {st₂ st₃ : AnalysisStack} {n q kept before : ℕ} (f : Framed l s nest h n kept q before b₂ st₂) (settled : Becomes st₃ l b₂ b₃ st₂ (settle-frame propagate-analysis kept before)) where
   pub ready-settled : {h′ : Place} → 0 < nest → place-of h′ ≡ walk.deeper (place-of h) → h′ .depth ≡ h .depth + 1 → Ready l b₃ st₃ s q (nest - 1) h′
   ready-settled level same depth = ready-body before (f .ready) level same depth (f .specs) (settled .same) (settled .fit)
@@ -129,7 +125,7 @@ module _ {l : Limits} {s : List ℕ} {nest : ℕ} {h : Place} {b₂ b₃ : Buffe
   pub kept-before : {q′ : ℕ} {σ : rules.AnalysisStack} → Passed q q′ (stack b₃ st₃) σ → before ≤ length (σ .references)
   kept-before k = omega (arith, settled-before, ap length (k .same-references))
 
--- one walk behind another
+-- one walk after another
 pub passed-then : {p q r : ℕ} {σ σ′ σ″ : rules.AnalysisStack} → Passed p q σ σ′ → Passed q r σ′ σ″ → Passed p r σ σ″
 passed-then j k = record {
   onward = omega (arith, j .onward, k .onward);
@@ -145,7 +141,7 @@ pub passed-fields : (s : List ℕ) (L : rules.Limits) (levels object p : ℕ) (h
 unfolding fields-steps
 passed-fields s L levels object p h σ = after-bind _ (passed-assertions s L levels _ p h σ) λ x j. after-weaken (passed-values s L levels _ (object + 14) (x .1) h (x .0)) λ y k. passed-then j k
 
--- an object's heads are behind its record of 14 bytes
+-- an object's heads are after its record of 14 bytes
 pub ready-heads : {l : Limits} {s : List ℕ} {nest p : ℕ} {h : Place} {b b₁ : Buffers} {st : AnalysisStack} → Ready l b st s p nest h → (levels n : ℕ) (at : walk.Place) {r : Walked} {st₁ : AnalysisStack} {q : ℕ}
     → Walks r l b b₁ st (λ L σ. run-heads s L levels n (p + 14) at σ) → r ≡ walked-as.To st₁ q → Ready l b₁ st₁ s (q - 14) nest h
 ready-heads {s = s} {p = p} {b = b} {st = st} ready levels n at w e =
@@ -157,7 +153,7 @@ ready-heads {s = s} {p = p} {b = b} {st = st} ready levels n at w e =
       short = ready .short;
     }
 
--- a value's output comes behind what was there
+-- a value's output comes after what was there
 pub longer-value : (s : List ℕ) (levels p at : ℕ) (ν : walk.Naming) (h : walk.Place) {l : Limits} {b b₁ b₂ : Buffers} {st st₁ st₂ : AnalysisStack} {r : Step} {r′ : Walked} {q : ℕ} → Fit l b st
     → Steps r l b b₁ st (λ L σ. opened-value L at σ) → r ≡ step-as.Ok st₁ → Walks r′ l b₁ b₂ st₁ (λ L σ. run-expr s L levels p ν h σ) → r′ ≡ walked-as.To st₂ q → st .out ≤ st₂ .out
 unfolding opened-value

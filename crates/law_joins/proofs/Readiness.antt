@@ -1,18 +1,14 @@
 -- Where one walk ends the next may begin: what a walker asks of the state and of the place goes on from step to step. Assumes nothing.
-use Prim.Native.Nat.{ℕ, zero, suc, _+_, _-_, _*_, _<_, _≤_}
+use Prim.Native.Nat.{ℕ, _+_, _-_, _*_, _<_, _≤_}
 use native.Mathlib.Omega.{arith}
-use mathlib.Core.Bool.{Bool, true, false}
+use mathlib.Core.Bool.{Bool, true}
 use mathlib.Core.List.{List, [], _∷_, _++_}
-use mathlib.Core.Option.{Option, none, some}
-use mathlib.Core.Path.{_≡_, refl, sym, _∙_, ap, subst}
+use mathlib.Core.Path.{_≡_, refl, sym, _∙_, subst}
 use lib.ListN.{length, length-append}
-use lib.Dec.{ltb}
-use Rattle.rules.specs.Outcome.{Outcome, ok, refuse, _>>=_, need}
+use Rattle.rules.specs.Outcome.{ok}
 use Rattle.rules.specs.State as rules
 use Rattle.rules.specs.Depths.{AnalysisResult}
-use Rattle.rules.specs.Records.{no-span}
-use Rattle.rules.specs.Tree.{at-record}
-use Rattle.rules.specs.Locals.{LocalDefinition, new-local}
+use Rattle.rules.specs.Locals.{LocalDefinition}
 use Rattle.rules.specs.Frames.{ClosureFrame, top, beneath, with-one-more-local}
 use Rattle.rules.specs.Settling.{propagate-analysis}
 use Rattle.rules.specs.Scoping.{settle-frame, define-this, push-in-frame, push-local}
@@ -22,7 +18,7 @@ use Rattle.law_steady.proofs.Keeping.{steady-sound}
 use Rattle.law_steady.proofs.Steps.{steady-settle, analysis-keeps, defined-this}
 use Rattle.law_steady.proofs.Places.{defined-binds-at, defined-params-at}
 use Rattle.rules.specs.Walk as walk
-use Rattle.rules.proofs.After.{After, fine, refused, after-ok, after-bind, after-need, after-weaken}
+use Rattle.rules.proofs.After.{After, fine, after-ok, after-bind, after-need, after-weaken, after-both}
 use Rattle.law_steady.specs.Steady.{Sound, Defined}
 use Rattle.law_steady.specs.Passed.{Passed, Passed-specs}
 use Rattle.state.specs.Seen.{Buffers, stack, Fit}
@@ -88,11 +84,6 @@ opened-told L p is-defining σ = after-need _ _ _ _ λ _. fine (alike-frames _ �
 pub opened-alike : (L : rules.Limits) (p : ℕ) (is-defining : Bool) {σ σ′ : rules.AnalysisStack} → open-frame L p is-defining σ ≡ ok σ′ → Alike σ σ′
 opened-alike L p is-defining {σ = σ} e = after-ok (opened-told L p is-defining σ) e
 
--- what holds after an outcome in two ways holds together
-both : {A : Type 0} {P Q : A → Type 0} (o : Outcome A) → After P o → After Q o → After (λ a. P a × Q a) o
-both (ok a) (fine p) (fine q) = fine (p, q)
-both (refuse number place) p q = refused
-
 -- a frame opened and its names defined
 
 pub begun-local-alike : (s : List ℕ) (L : rules.Limits) (levels n p depth : ℕ) {σ : rules.AnalysisStack} {x : rules.AnalysisStack × ℕ} → begun-local L s levels n p depth σ ≡ ok x → Alike σ (x .0)
@@ -121,7 +112,7 @@ this-told L p depth σ = after-bind _ (pushed-told L p _ σ) λ σ₁ lt. fine {
 
 pub begun-object-alike : (s : List ℕ) (L : rules.Limits) (levels n p binds : ℕ) (h : walk.Place) {σ : rules.AnalysisStack} {x : rules.AnalysisStack × ℕ} → begun-object L s levels n p binds h σ ≡ ok x → Alike-inside σ (x .0)
 unfolding begun-object rules.with-object-use Sound
-begun-object-alike s L levels n p binds h {σ = σ} e = after-ok {P = λ x. Alike-inside σ (x .0)} (after-bind _ (opened-told L p true _) λ σ₁ a. after-bind _ (both _ (defined-this L p (h .depth) σ₁) (this-told L p (h .depth) σ₁)) λ σ₂ d.
+begun-object-alike s L levels n p binds h {σ = σ} e = after-ok {P = λ x. Alike-inside σ (x .0)} (after-bind _ (opened-told L p true _) λ σ₁ a. after-bind _ (after-both (defined-this L p (h .depth) σ₁) (this-told L p (h .depth) σ₁)) λ σ₂ d.
     after-weaken (defined-binds-at s L levels n binds (h .depth) σ₂) λ x d′. record {
       alike = alike-then (used a) (alike-then (alike-defined (d .0)) (alike-defined d′));
       one-more = omega (arith, used a .more-locals, d .1, d′ .more-locals);

@@ -1,6 +1,6 @@
 -- What each walker returns: the walk of the expression or the list that stands there, from the walks and steps before it. `n`, `h′`, `ν′` and
 -- `before` are what the code holds, with what they are equal to. Assumes nothing.
-use Prim.Native.Nat.{ℕ, zero, suc, _+_, _-_, _*_, _<_, _≤_}
+use Prim.Native.Nat.{ℕ, _+_, _-_}
 use native.Mathlib.Omega.{arith}
 use mathlib.Core.Bool.{Bool, true, false}
 use mathlib.Core.List.{List, [], _∷_}
@@ -8,8 +8,8 @@ use mathlib.Core.Path.{_≡_, refl, sym, _∙_, ap, subst}
 use lib.ListN.{length}
 use lib.Dec.{eqb}
 use borrow.Author.Tests.{eqb-true, eqb-false}
-use Rattle.rules.specs.Outcome.{Outcome, ok, refuse, _>>=_}
-use Rattle.rules.specs.Numbers.{Mark, number-at, numbers-at, code, code-at, is-set, ID, TV, VA, AR, IM, LO, FN, OB, NA, PT, AT, BV, PA}
+use Rattle.rules.specs.Outcome.{Outcome, _>>=_}
+use Rattle.rules.specs.Numbers.{Mark, number-at, numbers-at, code, code-at, ID, TV, VA, AR, IM, LO, FN, OB, NA, PT, AT, BV, PA}
 use Rattle.rules.specs.Records.{size-of, numbers-of}
 use Rattle.rules.specs.Depths.{AnalysisResult, no-dependence}
 use Rattle.rules.specs.FirstWalk.{any-expression, expr-at, constants-at}
@@ -21,13 +21,11 @@ use Rattle.rules.specs.Scoping.{settle-frame}
 use Rattle.rules.specs.Walk as walk
 use Rattle.bytes_records.specs.Marks.{mark-of, children}
 use Rattle.bytes_records.specs.Constants.{is-some}
-use Rattle.law_runs.specs.Run.{Accepted, run-expr, run-item, run-items, run-assertions, run-values, run-heads, run-binds, run-params, items-at, binds-at, params-at, heads-at, values-at}
-use Rattle.law_runs.specs.Steps.{identity-steps, variable-steps, import-steps, constants-steps, copied, closed-array, closed-assertions, closed-value, head-naming-at, bind-naming-at, opened-value}
-use Rattle.law_runs.specs.Steps.{closed-spec, recorded, begun-local, begun-function, begun-object, finished-local, finished-function, finished-object, span-at, first-defaults, plain-steps, head-written, array-steps, local-steps, function-steps, object-steps}
-use Rattle.law_runs.specs.Steps.{assertions-steps, value-steps, head-steps, bind-steps, param-steps}
+use Rattle.law_runs.specs.Run.{Accepted, run-expr, run-items, run-assertions, run-values, run-heads, run-binds, run-params, items-at, binds-at, params-at, heads-at, values-at}
+use Rattle.law_runs.specs.Steps.{identity-steps, variable-steps, import-steps, constants-steps, copied, closed-array, closed-assertions, closed-value, head-naming-at, bind-naming-at, opened-value, closed-spec, recorded, begun-local, begun-function, begun-object, finished-local, finished-function, finished-object, span-at, first-defaults, plain-steps, head-written, array-steps, local-steps, function-steps, object-steps, assertions-steps, value-steps, head-steps, bind-steps, param-steps}
 use Rattle.law_runs.proofs.Expressions.{identity-run, constant-run, variable-run, import-run, constants-run, array-run, plain-run, local-none, local-run, function-run, object-run, object-heads}
-use Rattle.law_runs.proofs.Lists.{item-run, bind-run, param-run, head-run, value-run, assertions-none, assertions-run}
-use Rattle.state.specs.Seen.{Buffers, stack, limits-of, Fit}
+use Rattle.law_runs.proofs.Lists.{bind-run, param-run, head-run, value-run, assertions-none, assertions-run}
+use Rattle.state.specs.Seen.{Buffers, stack, Fit}
 use Rattle.state.specs.Walks.{Walks, Walks-specs, Steps, Becomes}
 use Rattle.state.specs.declared.AnalysisStack.{AnalysisStack}
 use Rattle.state.specs.declared.Limits.{Limits}
@@ -37,7 +35,8 @@ use Rattle.state.specs.declared.Walked.{Walked}
 use Rattle.state.specs.declared.Walked.the-variants as walked-as
 use Rattle.state.specs.declared.Specs.{Specs}
 use Rattle.state.specs.declared.Specs.the-variants as specs-as
-use Rattle.law_joins.specs.Ready.{There, Plain-there, Held-there, Holder, an-argument, a-part, an-assertion, static-of, members-steps, fields-steps}
+use Rattle.rules.proofs.Flags.{set-of, unset-of}
+use Rattle.law_joins.specs.Ready.{There, Plain-there, Holder, an-argument, a-part, an-assertion, static-of, members-steps, fields-steps}
 use Rattle.law_runs.proofs.Holders.{held-one, held-two, not-held-run}
 use Rattle.law_runs.proofs.Expressions as found
 use Rattle.law_joins.proofs.Joining.{Long, walks-as, specs-as-well, walk-then, walk-stops}
@@ -47,16 +46,6 @@ use Rattle.law_joins.proofs.Constructs as made
 settled-with : (kept : ℕ) {l : Limits} {b b₁ : Buffers} {st st₁ : AnalysisStack} {before before′ : ℕ} → before ≡ before′
     → Becomes st₁ l b b₁ st (settle-frame propagate-analysis kept before) → Becomes st₁ l b b₁ st (settle-frame propagate-analysis kept before′)
 settled-with kept {l = l} {b = b} {b₁ = b₁} {st = st} {st₁ = st₁} e w = subst (λ (k : ℕ). Becomes st₁ l b b₁ st (settle-frame propagate-analysis kept k)) e w
-
--- a flag that was tested
-unset : {n : ℕ} → n ≡ 0 → is-set n ≡ false
-unfolding is-set
-unset e = ap is-set e
-
-set : {n : ℕ} → (n ≡ 0 → ⊥) → is-set n ≡ true
-unfolding is-set
-set {n = zero} no-zero = absurd (no-zero refl)
-set {n = suc n} no-zero = refl
 
 -- Records with nothing below them
 
@@ -213,7 +202,7 @@ module _ (s : List ℕ) (nest p : ℕ) (a : There s nest OB p) (ν : walk.Naming
   pub object-ended : {st₁ : AnalysisStack} {binds : ℕ} → r₁ ≡ walked-as.To st₁ binds → Long b b₁ → {b₂ : Buffers} {r₂ : Walked} → Walks r₂ l b₁ b₂ st₁ (λ L σ. members-steps s L nest binds p h σ) → Walks r₂ l b b₂ st (λ L σ. run-expr s L nest p ν h σ)
   object-ended e k members = object-whole (made.object-ends s nest p h heads-all e k members)
 
--- behind the heads
+-- after the heads
 
 module _ (s : List ℕ) (nest binds p : ℕ) (h : walk.Place) {l : Limits} {b b₁ : Buffers} {st : AnalysisStack} {n : ℕ} (en : n ≡ number-at s (p + 2))
     {r₁ : Walked} (begun : Walks r₁ l b b₁ st (λ L σ. begun-object L s (nest - 1) n p binds h σ)) where
@@ -308,14 +297,14 @@ module _ (s : List ℕ) (nest p : ℕ) (a : Accepted (heads-at s nest 1 p)) (h :
   head-whole w = walks-as w λ L σ. sym (head-run s L nest p h σ a)
 
   pub head-alone : n ≡ 0 → {b₁ : Buffers} {r : Walked} → Walks r l b b₁ st (λ L σ. head-written L s p (p + 26) σ) → Walks r l b b₁ st (λ L σ. run-heads s L nest 1 p h σ)
-  head-alone e own = head-whole (made.head-fixed s nest p h (unset (sym en ∙ e)) own)
+  head-alone e own = head-whole (made.head-fixed s nest p h (unset-of (sym en ∙ e)) own)
 
   module _ (computed : n ≡ 0 → ⊥) {b₁ : Buffers} {r₁ : Walked} (name : Walks r₁ l b b₁ st (λ L σ. run-expr s L nest (p + 26) walk.unnamed h σ)) where
     pub head-stopped : {number place : ℕ} → r₁ ≡ walked-as.Refused number place → Walks r₁ l b b₁ st (λ L σ. run-heads s L nest 1 p h σ)
-    head-stopped e = head-whole (made.head-stops s nest p h (set (λ z. computed (en ∙ z))) name e)
+    head-stopped e = head-whole (made.head-stops s nest p h (set-of (λ z. computed (en ∙ z))) name e)
 
     pub head-ended : {st₁ : AnalysisStack} {q : ℕ} → r₁ ≡ walked-as.To st₁ q → Long b b₁ → {b₂ : Buffers} {r₂ : Walked} → Walks r₂ l b₁ b₂ st₁ (λ L σ. head-written L s p q σ) → Walks r₂ l b b₂ st (λ L σ. run-heads s L nest 1 p h σ)
-    head-ended e k own = head-whole (made.head-ends s nest p h (set (λ z. computed (en ∙ z))) name e k own)
+    head-ended e k own = head-whole (made.head-ends s nest p h (set-of (λ z. computed (en ∙ z))) name e k own)
 
 -- binds and parameters
 
@@ -357,21 +346,21 @@ module _ (s : List ℕ) (nest p kept : ℕ) (a : Accepted (params-at s nest 1 p)
         ∙ ap (λ (x : Mark). recorded L p 0 kept (rules.written (stack b st)) (stack b st .taint) x numbers (p + 14) (rules.with-taint no-dependence (stack b st))) ek
         ∙ ap (λ (x : ℕ → List ℕ). recorded L p 0 kept (rules.written (stack b st)) (stack b st .taint) PA x (p + 14) (rules.with-taint no-dependence (stack b st))) ens
         ∙ ap (λ (x : ℕ). recorded L p 0 kept (rules.written (stack b st)) (stack b st .taint) PA (λ slot. x ∷ slot ∷ 0 ∷ []) (p + 14) (rules.with-taint no-dependence (stack b st))) em
-        ∙ sym (made.param-plain s nest p kept h L (stack b st) (unset (sym en ∙ e)));
+        ∙ sym (made.param-plain s nest p kept h L (stack b st) (unset-of (sym en ∙ e)));
     fit = w .fit;
   })
 
   module _ (defaults : n ≡ 0 → ⊥) {b₁ : Buffers} {r₁ : Step} (opened : Steps r₁ l b b₁ st (λ L σ. opened-value L p σ)) where
     pub param-unopened : {r : Specs} {number place : ℕ} → r₁ ≡ step-as.Refused number place → r ≡ specs-as.Refused number place → Walks-specs r l b b₁ st (λ L σ. run-params s L nest 1 p kept h σ)
-    param-unopened e e′ = param-whole (made.param-not-opened s nest p kept h opened (set (λ z. defaults (en ∙ z))) e e′)
+    param-unopened e e′ = param-whole (made.param-not-opened s nest p kept h opened (set-of (λ z. defaults (en ∙ z))) e e′)
 
     module _ {st₁ : AnalysisStack} (e₁ : r₁ ≡ step-as.Ok st₁) (k₁ : Long b b₁) {b₂ : Buffers} {r₂ : Walked} (value : Walks r₂ l b₁ b₂ st₁ (λ L σ. run-expr s L nest (p + 14) walk.unnamed h σ)) where
       pub param-stopped : {r : Specs} {number place : ℕ} → r₂ ≡ walked-as.Refused number place → r ≡ specs-as.Refused number place → Walks-specs r l b b₂ st (λ L σ. run-params s L nest 1 p kept h σ)
-      param-stopped e e′ = param-whole (made.param-stops s nest p kept h opened e₁ k₁ (set (λ z. defaults (en ∙ z))) value e e′)
+      param-stopped e e′ = param-whole (made.param-stops s nest p kept h opened e₁ k₁ (set-of (λ z. defaults (en ∙ z))) value e e′)
 
       pub param-ended : {st₂ : AnalysisStack} {q start : ℕ} {outer : AnalysisResult} {m : Mark} {numbers : ℕ → List ℕ} → r₂ ≡ walked-as.To st₂ q → Long b₁ b₂ → start ≡ rules.written (stack b st) → outer ≡ stack b st .taint → m ≡ PA → numbers ≡ (λ slot. name ∷ slot ∷ 1 ∷ [])
           → {b₃ : Buffers} {r₃ : Specs} → Walks-specs r₃ l b₂ b₃ st₂ (λ L σ. closed-spec L p 0 kept start outer m numbers q σ) → Walks-specs r₃ l b b₃ st (λ L σ. run-params s L nest 1 p kept h σ)
-      param-ended {q = q} {outer = outer} {m = m} {numbers = numbers} e k et eo ek ens closed = param-whole (made.param-ends s nest p kept h opened e₁ k₁ (set (λ z. defaults (en ∙ z))) value e k (specs-as-well closed λ L σ.
+      param-ended {q = q} {outer = outer} {m = m} {numbers = numbers} e k et eo ek ens closed = param-whole (made.param-ends s nest p kept h opened e₁ k₁ (set-of (λ z. defaults (en ∙ z))) value e k (specs-as-well closed λ L σ.
           ap (λ (x : ℕ). closed-spec L p 0 kept x outer m numbers q σ) et
           ∙ ap (λ (x : AnalysisResult). closed-spec L p 0 kept (rules.written (stack b st)) x m numbers q σ) eo
           ∙ ap (λ (x : Mark). closed-spec L p 0 kept (rules.written (stack b st)) (stack b st .taint) x numbers q σ) ek

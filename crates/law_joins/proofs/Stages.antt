@@ -1,29 +1,26 @@
 -- What stands where while a local, a function or an object is walked, and that the state is ready for it. Assumes nothing.
-use Prim.Native.Nat.{ℕ, zero, suc, _+_, _-_, _*_, _<_, _≤_}
+use Prim.Native.Nat.{ℕ, _+_, _-_, _<_, _≤_}
 use native.Mathlib.Omega.{arith}
 use mathlib.Core.Bool.{Bool}
-use mathlib.Core.List.{List, [], _∷_}
+use mathlib.Core.List.{List}
 use mathlib.Core.Path.{_≡_, refl, sym, _∙_, ap, subst}
 use lib.ListN.{length, take, drop}
-use Rattle.rules.specs.Outcome.{Outcome, ok, refuse}
+use Rattle.rules.specs.Outcome.{ok}
 use Rattle.rules.specs.Numbers.{number-at, numbers-at, code, code-at, LO, FN, OB}
 use Rattle.rules.specs.Records.{size-of, numbers-of}
 use Rattle.rules.specs.FirstWalk.{any-expression, expr-at}
 use Rattle.rules.specs.Settling.{propagate-analysis}
 use Rattle.rules.specs.Scoping.{settle-frame}
-use Rattle.rules.specs.State as rules
 use Rattle.rules.specs.Walk as walk
 use Rattle.rules.proofs.After.{after-ok}
+use Rattle.rules.proofs.Outcomes.{bind-got}
 use Rattle.bytes_records.specs.Marks.{mark-of, children}
 use Rattle.bytes_records.proofs.Laws.{numbers-part}
-use Rattle.law_runs.specs.Run.{Accepted, run-expr, run-items, run-assertions, run-heads, run-binds, run-params, items-at, binds-at, params-at, heads-at, values-at}
+use Rattle.law_runs.specs.Run.{Accepted, run-expr, run-assertions, run-heads, run-binds, run-params, items-at, binds-at, params-at, heads-at, values-at}
 use Rattle.law_runs.specs.Steps.{begun-local, begun-function, begun-object}
-use Rattle.law_runs.proofs.Reading.{expr-level, expr-inside}
-use Rattle.law_runs.proofs.Expressions.{plain-code, plain-size, plain-items, local-size, local-binds, local-body-at, function-size, function-params, function-body-at, object-size, object-heads, object-binds-at, object-assertions-at, object-values-at}
-use Rattle.law_runs.proofs.Expressions.{expr-end, items-end, assertions-end, heads-end, binds-end, params-end}
-use Rattle.law_runs.proofs.Binding.{bind-got}
+use Rattle.law_runs.proofs.Reading.{expr-within}
+use Rattle.law_runs.proofs.Expressions.{plain-code, plain-size, plain-items, local-size, local-binds, local-body-at, function-size, function-params, function-body-at, object-size, object-heads, object-binds-at, object-assertions-at, object-values-at, expr-end, assertions-end, heads-end, binds-end, params-end}
 use Rattle.law_runs.proofs.Lists as lists
-use Rattle.law_steady.specs.Passed.{Passed}
 use Rattle.law_steady.proofs.Places.{passed-expr}
 use Rattle.state.specs.Seen.{Buffers, stack, Fit}
 use Rattle.state.specs.Walks.{place-of, Walks, Walks-specs, Becomes}
@@ -39,17 +36,17 @@ use Rattle.step_static.specs.Answers.{IsStatic}
 use Rattle.law_runs.proofs.Holders.{held-second}
 use Rattle.law_joins.proofs.Returns.{the-holder}
 use Rattle.law_joins.specs.Ready.{Ready, There, Plain-there, Members-there, Fields-there, Held-there, fields-steps, static-of}
-use Rattle.law_joins.proofs.Joining.{went, went-fit, kept-on, kept-fit}
-use Rattle.law_joins.proofs.Readiness.{ready-on, begun-local-alike, begun-function-alike, begun-object-alike}
+use Rattle.law_joins.proofs.Joining.{went, went-fit, kept-on}
+use Rattle.law_joins.proofs.Readiness.{begun-local-alike, begun-function-alike, begun-object-alike}
 use Rattle.law_joins.proofs.Onward.{Framed, ready-expr, ready-local, ready-function, ready-object, framed-binds, framed-params, ready-settled, kept-before, passed-fields}
 use Rattle.law_joins.proofs.Readiness as readiness
 use Rattle.law_joins.proofs.Asking.{settleable, references-counted}
 
--- the place behind a walk is inside the bytes
+-- the place after a walk is inside the bytes
 pub expr-behind : (s : List ℕ) (nest p : ℕ) (ν : walk.Naming) (h : walk.Place) → Accepted (expr-at s nest any-expression p) → {l : Limits} {b b₁ : Buffers} {st st₁ : AnalysisStack} {r : Walked} {q : ℕ}
     → Walks r l b b₁ st (λ L σ. run-expr s L nest p ν h σ) → r ≡ walked-as.To st₁ q → q ≤ length s
 expr-behind s nest p ν h a {b = b} {st = st} w e =
-    subst (λ (q : ℕ). q ≤ length s) (expr-end s _ nest p ν h (stack b st) (went w e _ refl) a) (expr-inside s nest any-expression p (a .there) .1)
+    subst (λ (q : ℕ). q ≤ length s) (expr-end s _ nest p ν h (stack b st) (went w e _ refl) a) (expr-within s nest any-expression p (a .there) .1)
 
 -- how many records stand below one, told from the bytes that begin with it
 pub children-here : (s : List ℕ) (mark p : ℕ) {n : ℕ} → n ≡ children (mark-of mark) (numbers-at (take (length s - p) (drop p s)) (numbers-of (mark-of mark)) 2) → n ≡ children (mark-of mark) (numbers-at s (numbers-of (mark-of mark)) (p + 2))
@@ -88,7 +85,7 @@ module _ {l : Limits} {s : List ℕ} {nest : ℕ} {h : Place} {n kept q before :
   pub stage-body : Ready l b₃ st₃ s q (nest - 1) h′
   stage-body = ready-settled (g .framed) settled level same depth
 
-  -- behind the body: what the end of the frame asks
+  -- after the body: what the end of the frame asks
   pub stage-ends : (ν : walk.Naming) {b₄ : Buffers} {st₄ : AnalysisStack} {r : Walked} {q′ : ℕ} → Walks r l b₃ b₄ st₃ (λ L σ. run-expr s L (nest - 1) q ν (place-of h′) σ) → r ≡ walked-as.To st₄ q′ → Settleable (b₄ .locals) (b₄ .references) st₄ kept before × Fit l b₄ st₄
   stage-ends ν w e =
       let k = ready-expr stage-body (nest - 1) ν (place-of h′) w e in
@@ -136,7 +133,7 @@ module _ {s : List ℕ} {nest p : ℕ} (a : There s nest OB p) where
   pub object-heads-there : {f : ℕ} → f ≡ number-at s (p + 10) → Accepted (heads-at s (nest - 1) f (p + 14))
   object-heads-there ef = subst (λ (k : ℕ). Accepted (heads-at s (nest - 1) k (p + 14))) (sym ef) (object-heads s nest p (a .read) (a .marked))
 
-  -- behind the heads
+  -- after the heads
   pub object-members : {f : ℕ} → f ≡ number-at s (p + 10) → {l : Limits} {b b₁ : Buffers} {st st₁ : AnalysisStack} (h : walk.Place) {r : Walked} {q : ℕ} → Walks r l b b₁ st (λ L σ. run-heads s L (nest - 1) f (p + 14) h σ) → r ≡ walked-as.To st₁ q → Members-there s nest q p
   unfolding object-heads-there
   object-members {f = f} ef {b = b} {st = st} h w e =
@@ -148,7 +145,7 @@ module _ {s : List ℕ} {nest p : ℕ} (a : There s nest OB p) where
         behind = hs .there ∙ ap (λ (q : ℕ). ok (hs .what .0, q)) end;
       }
 
--- what stands behind the heads of the object at p, from `binds` on
+-- what stands after the heads of the object at p, from `binds` on
 module _ {l : Limits} {s : List ℕ} {nest p binds : ℕ} {h : Place} {b : Buffers} {st : AnalysisStack} (r : Ready l b st s (binds - 14) nest h) (m : Members-there s nest binds p) {n : ℕ} (en : n ≡ number-at s (p + 2)) where
   pub members-behind : (p + 14 ≤ binds) × (binds ≤ length s)
   members-behind =
@@ -181,7 +178,7 @@ module _ {l : Limits} {s : List ℕ} {nest p binds : ℕ} {h : Place} {b : Buffe
         fields = record { fits = object-size s nest p (m .there .read) (m .there .marked); inside = lists.binds-end s (nest - 1) n binds read (members-behind .1) .1; assertions = ts; values = object-values-at s nest p (m .there .read) (m .there .marked) (m .behind) counted (ts .there) };
       }
 
--- the values behind the assertions
+-- the values after the assertions
 module _ {s : List ℕ} {levels object p : ℕ} (g : Fields-there s levels object p) {n : ℕ} (en : n ≡ number-at s (object + 6)) where
   pub fields-assertions : Accepted (items-at s levels n p)
   fields-assertions = subst (λ (k : ℕ). Accepted (items-at s levels k p)) (sym en) (g .assertions)
@@ -193,7 +190,7 @@ module _ {s : List ℕ} {levels object p : ℕ} (g : Fields-there s levels objec
       let end = assertions-end s _ levels n p h (stack b st) (went w e _ refl) fields-assertions in
       subst (λ (k : ℕ). Accepted (values-at s levels k (object + 14) q)) (sym ef) (subst (λ (q : ℕ). Accepted (values-at s levels (number-at s (object + 10)) (object + 14) q)) end (g .values))
 
--- the place behind both is inside the bytes
+-- the place after both is inside the bytes
 pub fields-behind : {s : List ℕ} {levels object p : ℕ} → Fields-there s levels object p → (h : walk.Place) {l : Limits} {b b₁ : Buffers} {st st₁ : AnalysisStack} {r : Walked} {q : ℕ} → Walks r l b b₁ st (λ L σ. fields-steps s L levels object p h σ) → r ≡ walked-as.To st₁ q → q ≤ length s
 unfolding fields-steps
 fields-behind {s = s} {levels = levels} {object = object} {p = p} g h {b = b} {st = st} w e =
@@ -202,7 +199,7 @@ fields-behind {s = s} {levels = levels} {object = object} {p = p} g h {b = b} {s
     let vs = lists.values-ran s _ levels (number-at s (object + 10)) (object + 14) (k .middle .1) h (k .middle .0) (k .second) in
     lists.values-end s levels (number-at s (object + 10)) (object + 14) (k .middle .1) (vs .1) (lists.items-end s levels (number-at s (object + 6)) p (ts .1) (g .inside) .1) .1
 
--- behind assertions and values: what the end of the object asks
+-- after assertions and values: what the end of the object asks
 pub members-end-asks : {l : Limits} {s : List ℕ} {nest p binds : ℕ} {h : Place} {b : Buffers} {st : AnalysisStack} {r : Ready l b st s (binds - 14) nest h} {m : Members-there s nest binds p} {n : ℕ} {en : n ≡ number-at s (p + 2)} {i : Place} {kept q before : ℕ}
     {b₂ b₃ b₄ : Buffers} {st₂ st₃ st₄ : AnalysisStack} (g : Members-stage r m en i kept q before b₂ st₂) (settled : Becomes st₃ l b₂ b₃ st₂ (settle-frame propagate-analysis kept before))
     (i′ : Place) → 0 < nest → place-of i′ ≡ walk.deeper (place-of i) → i′ .depth ≡ i .depth + 1 → {w : Walked} {q′ : ℕ} → Walks w l b₃ b₄ st₃ (λ L σ. fields-steps s L (nest - 1) p q (place-of i′) σ) → w ≡ walked-as.To st₄ q′

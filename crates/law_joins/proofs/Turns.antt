@@ -1,8 +1,7 @@
 -- The loops of the walkers: what is left of the list, from here, gives what the whole gives. Assumes nothing.
-use Prim.Native.Nat.{ℕ, zero, suc, _+_, _-_, _*_, _<_, _≤_}
+use Prim.Native.Nat.{ℕ, suc, _+_, _-_, _<_, _≤_}
 use native.Mathlib.Omega.{arith}
-use mathlib.Core.Bool.{Bool, true, false}
-use mathlib.Core.List.{List, [], _∷_}
+use mathlib.Core.List.{List}
 use mathlib.Core.Logic.{_⊎_, inl, inr}
 use mathlib.Core.Path.{_≡_, refl, sym, _∙_, ap, subst}
 use lib.ListN.{length}
@@ -12,13 +11,11 @@ use Rattle.rules.specs.Walk as walk
 use Rattle.rules.proofs.After.{After, after-ok}
 use Rattle.law_steady.specs.Passed.{Passed, Passed-specs}
 use Rattle.law_runs.specs.Run.{Accepted, values-at, heads-at, items-at, binds-at, params-at, run-values, run-items, run-heads, run-binds, run-params}
-use Rattle.law_runs.proofs.Lists.{items-none, items-first, items-rest, items-next, items-stop, heads-none, heads-first, heads-rest, heads-next, heads-stop}
-use Rattle.law_runs.proofs.Lists.{binds-none, binds-first, binds-rest, binds-next, binds-stop, params-none, params-first, params-rest, params-next, params-stop}
-use Rattle.law_runs.proofs.Lists.{values-none, values-first, values-head, values-stop, values-rest, values-next, head-fits, head-behind}
+use Rattle.law_runs.proofs.Lists.{StatesByOne, SpecsByOne, items-first, items-by-one, heads-first, heads-by-one, binds-first, binds-by-one, params-first, params-by-one, values-none, values-first, values-head, values-stop, values-rest, values-next, head-fits, head-behind}
 use Rattle.bytes_skip.specs.Behind.{Behind}
 use Rattle.law_steady.proofs.Places.{passed-values, passed-items, passed-heads, passed-binds, passed-params}
-use Rattle.state.specs.Seen.{Buffers, buffers, stack, limits-of, Fit}
-use Rattle.state.specs.Walks.{place-of, walked, specs, Walks, Walks-specs, Walked-fits, Specs-fits}
+use Rattle.state.specs.Seen.{Buffers, buffers, stack, limits-of}
+use Rattle.state.specs.Walks.{place-of, walked, specs, Walks, Walks-specs}
 use Rattle.state.specs.declared.AnalysisStack.{AnalysisStack}
 use Rattle.state.specs.declared.Limits.{Limits}
 use Rattle.state.specs.declared.Place.{Place}
@@ -27,7 +24,7 @@ use Rattle.state.specs.declared.Walked.the-variants as walked-as
 use Rattle.state.specs.declared.Specs.{Specs}
 use Rattle.state.specs.declared.Specs.the-variants as specs-as
 use Rattle.law_joins.specs.Ready.{Ready}
-use Rattle.law_joins.proofs.Joining.{Long, Answer, Kept-answer, limits-kept, refused-fits, refused-specs-fit, went, went-fit, kept-on, kept-fit}
+use Rattle.law_joins.proofs.Joining.{Long, Answer, Kept-answer, limits-kept, went, went-fit, kept-on, kept-fit}
 use Rattle.law_joins.proofs.Readiness.{ready-passed, ready-specs}
 
 -- all six buffers are as long as before
@@ -274,42 +271,36 @@ module _ {l : Limits} {s : List ℕ} {nest : ℕ} {h : Place} {b₀ : Buffers} {
 
 -- The lists of the tree
 
-pub items-unroll : (s : List ℕ) (nest : ℕ) (h : walk.Place) → Unrolls (λ n p. Accepted (items-at s nest n p)) (λ n p L σ. run-items s L nest n p h σ)
-items-unroll s nest h = record {
-  none = λ p L σ. items-none s L nest p h σ;
-  first = λ n p a. items-first s nest n p a;
-  rest = λ n p L σ a e. items-rest s L nest n p h σ a e;
-  next = λ n p L σ a e. items-next s L nest n p h σ a e;
-  stop = λ n p L σ a e. items-stop s L nest n p h σ a e;
-  passes = λ p L σ. passed-items s L nest 1 p h σ;
+unrolls : {A : Type 0} {read : ℕ → ℕ → Outcome (A × ℕ)} {run : ℕ → ℕ → Run} → ((n p : ℕ) → Accepted (read (suc n) p) → Accepted (read 1 p)) → ((L : rules.Limits) → StatesByOne read (λ n p σ. run n p L σ))
+    → ((p : ℕ) (L : rules.Limits) (σ : rules.AnalysisStack) → After (λ r. Passed p (r .1) σ (r .0)) (run 1 p L σ)) → Unrolls (λ n p. Accepted (read n p)) run
+unrolls first each passes = record {
+  none = λ p L σ. each L .none p σ;
+  first = first;
+  rest = λ n p L σ a e. each L .rest n p σ a e;
+  next = λ n p L σ a e. each L .next n p σ a e;
+  stop = λ n p L σ a e. each L .stop n p σ a e;
+  passes = passes;
 }
 
+pub items-unroll : (s : List ℕ) (nest : ℕ) (h : walk.Place) → Unrolls (λ n p. Accepted (items-at s nest n p)) (λ n p L σ. run-items s L nest n p h σ)
+items-unroll s nest h = unrolls (items-first s nest) (λ L. items-by-one s L nest h) (λ p L σ. passed-items s L nest 1 p h σ)
+
 pub heads-unroll : (s : List ℕ) (nest : ℕ) (h : walk.Place) → Unrolls (λ n p. Accepted (heads-at s nest n p)) (λ n p L σ. run-heads s L nest n p h σ)
-heads-unroll s nest h = record {
-  none = λ p L σ. heads-none s L nest p h σ;
-  first = λ n p a. heads-first s nest n p a;
-  rest = λ n p L σ a e. heads-rest s L nest n p h σ a e;
-  next = λ n p L σ a e. heads-next s L nest n p h σ a e;
-  stop = λ n p L σ a e. heads-stop s L nest n p h σ a e;
-  passes = λ p L σ. passed-heads s L nest 1 p h σ;
+heads-unroll s nest h = unrolls (heads-first s nest) (λ L. heads-by-one s L nest h) (λ p L σ. passed-heads s L nest 1 p h σ)
+
+unrolls-specs : {A : Type 0} {read : ℕ → ℕ → Outcome (A × ℕ)} {run : ℕ → ℕ → ℕ → Run-specs} → ((n p : ℕ) → Accepted (read (suc n) p) → Accepted (read 1 p)) → ((L : rules.Limits) → SpecsByOne read (λ n p b. run n p (b .0) L (b .1)))
+    → ((p kept : ℕ) (L : rules.Limits) (σ : rules.AnalysisStack) → After (λ r. Passed-specs 1 p (r .1 .1) kept (r .0) σ (r .1 .0)) (run 1 p kept L σ)) → Unrolls-specs (λ n p. Accepted (read n p)) run
+unrolls-specs first each passes = record {
+  none = λ p kept L σ. each L .none p (kept, σ);
+  first = first;
+  rest = λ n p kept L σ {σ′} {q} {k} a e. each L .rest n p (kept, σ) {b′ = (k, σ′)} a e;
+  next = λ n p kept L σ {σ′} {q} {k} a e. each L .next n p (kept, σ) {b′ = (k, σ′)} a e;
+  stop = λ n p kept L σ a e. each L .stop n p (kept, σ) a e;
+  passes = passes;
 }
 
 pub binds-unroll : (s : List ℕ) (nest base : ℕ) (h : walk.Place) → Unrolls-specs (λ n p. Accepted (binds-at s nest n p)) (λ n p kept L σ. run-binds s L nest n p base kept h σ)
-binds-unroll s nest base h = record {
-  none = λ p kept L σ. binds-none s L nest p base kept h σ;
-  first = λ n p a. binds-first s nest n p a;
-  rest = λ n p kept L σ a e. binds-rest s L nest n p base kept h σ a e;
-  next = λ n p kept L σ a e. binds-next s L nest n p base kept h σ a e;
-  stop = λ n p kept L σ a e. binds-stop s L nest n p base kept h σ a e;
-  passes = λ p kept L σ. passed-binds s L nest 1 p base kept h σ;
-}
+binds-unroll s nest base h = unrolls-specs (binds-first s nest) (λ L. binds-by-one s L nest base h) (λ p kept L σ. passed-binds s L nest 1 p base kept h σ)
 
 pub params-unroll : (s : List ℕ) (nest : ℕ) (h : walk.Place) → Unrolls-specs (λ n p. Accepted (params-at s nest n p)) (λ n p kept L σ. run-params s L nest n p kept h σ)
-params-unroll s nest h = record {
-  none = λ p kept L σ. params-none s L nest p kept h σ;
-  first = λ n p a. params-first s nest n p a;
-  rest = λ n p kept L σ a e. params-rest s L nest n p kept h σ a e;
-  next = λ n p kept L σ a e. params-next s L nest n p kept h σ a e;
-  stop = λ n p kept L σ a e. params-stop s L nest n p kept h σ a e;
-  passes = λ p kept L σ. passed-params s L nest 1 p kept h σ;
-}
+params-unroll s nest h = unrolls-specs (params-first s nest) (λ L. params-by-one s L nest h) (λ p kept L σ. passed-params s L nest 1 p kept h σ)

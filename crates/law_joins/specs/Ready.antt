@@ -21,12 +21,6 @@ use Rattle.state.specs.Walks.{place-of}
 use Rattle.state.specs.declared.AnalysisStack.{AnalysisStack}
 use Rattle.state.specs.declared.Limits.{Limits}
 use Rattle.state.specs.declared.Place.{Place}
-use Rattle.state.specs.declared.Step.{Step}
-use Rattle.state.specs.declared.Step.the-variants as step-as
-use Rattle.state.specs.declared.Walked.{Walked}
-use Rattle.state.specs.declared.Walked.the-variants as walked-as
-use Rattle.state.specs.declared.Specs.{Specs}
-use Rattle.state.specs.declared.Specs.the-variants as specs-as
 
 -- a place's ids are of locals that are there
 pub record Within (h : walk.Place) (n : ℕ) : Type 0 where
@@ -79,13 +73,13 @@ pub record Held-there (s : List ℕ) (nest mark at : ℕ) : Type 0 where
   pub marked : code-at s at ≡ mark
   pub holder : Holder mark
 
--- an object stands there, and its binds behind its heads
+-- an object stands there, and its binds after its heads
 pub record Members-there (s : List ℕ) (nest binds at : ℕ) : Type 0 where
   pub there : There s nest OB at
   pub heads : Heads
   pub behind : heads-at s (nest - 1) (number-at s (at + 10)) (at + 14) ≡ ok (heads, binds)
 
--- the assertions of an object, and behind them its values; so many levels are left for them
+-- the assertions of an object, and after them its values; so many levels are left for them
 pub record Fields-there (s : List ℕ) (levels object at : ℕ) : Type 0 where
   pub fits : object + 14 ≤ length s
   pub inside : at ≤ length s
@@ -99,7 +93,7 @@ module _ (s : List ℕ) (limits : rules.Limits) where
     (σ, q) ← run-assertions s limits levels (number-at s (object + 6)) p h σ
     run-values s limits levels (number-at s (object + 10)) (object + 14) q h σ
 
-  -- what stands behind the heads of the object at p
+  -- what stands after the heads of the object at p
   unfoldable pub members-steps : (nest binds p : ℕ) → walk.Place → rules.AnalysisStack → Outcome (rules.AnalysisStack × ℕ)
   members-steps nest binds p h σ =
       let n = number-at s (p + 2) in
@@ -111,21 +105,3 @@ module _ (s : List ℕ) (limits : rules.Limits) where
         (kept, (σ, q)) ← run-binds s limits (nest - 1) n binds 1 0 inside σ
         (σ, q) ← fields-steps (nest - 1) p q (walk.deeper inside) (settle-frame propagate-analysis kept before σ)
         finished-object limits p (walk.is-outermost h) outer kept before (number-at s (p + 6)) fields (static-of (heads-at s (nest - 1) fields (p + 14))) q σ
-
--- A refusal as the answer that is asked for; what else comes of it does not matter
-
-unfoldable pub not-opened : Step → Walked
-not-opened (step-as.Ok st) = walked-as.To st 0
-not-opened (step-as.Refused number place) = walked-as.Refused number place
-
-unfoldable pub no-value : Step → Specs
-no-value (step-as.Ok st) = specs-as.To st 0 0
-no-value (step-as.Refused number place) = specs-as.Refused number place
-
-unfoldable pub no-spec : Walked → Specs
-no-spec (walked-as.To st next) = specs-as.To st next 0
-no-spec (walked-as.Refused number place) = specs-as.Refused number place
-
-unfoldable pub not-kept : Specs → Walked
-not-kept (specs-as.To st next kept) = walked-as.To st next
-not-kept (specs-as.Refused number place) = walked-as.Refused number place

@@ -1,76 +1,20 @@
--- Laws of answers one after another, and of lists that are read item by item. Assumes nothing.
+-- Laws of lists that are read item by item, and of reading before analysing. Assumes nothing.
 use Prim.Native.Nat.{ℕ, suc, _+_, _*_, _≤_}
 use native.Mathlib.Omega.{arith}
 use native.Mathlib.Nat.{mul-suc, mul-zero}
 use mathlib.Core.Path.{_≡_, refl, sym, ap, _∙_}
 use Rattle.rules.specs.Outcome.{Outcome, ok, refuse, _>>=_}
 use Rattle.rules.specs.FirstWalk.{many, none-left}
-use Rattle.rules.proofs.After.{After, fine, refused, after-weaken, after-many}
+use Rattle.rules.proofs.After.{After, fine, after-weaken, after-many}
+use Rattle.rules.proofs.Outcomes.{same-ok, bind-fine, bind-ext, bind-assoc, bind-got, bind-refused}
 use Rattle.law_runs.specs.Run.{Accepted}
-
-pub same-ok : {A : Type 0} {a b : A} → ok a ≡ ok b → a ≡ b
-same-ok e = cc
-
-no-answer : {A : Type 0} {number place : ℕ} {a : A} → _≡_ {A = Outcome A} (refuse number place) (ok a) → ⊥
-no-answer e = let z : _≡_ {A = ℕ} 0 1 = cc in omega arith
-
--- Steps
-
-pub bind-fine : {A B : Type 0} {x : Outcome A} {a : A} (f : A → Outcome B) → x ≡ ok a → (x >>= f) ≡ f a
-unfolding _>>=_
-bind-fine {A = A} f e = ap (λ (y : Outcome A). y >>= f) e
-
--- a refusal is the whole's
-pub bind-refused : {A B : Type 0} {x : Outcome A} {number place : ℕ} (f : A → Outcome B) → x ≡ refuse number place → (x >>= f) ≡ refuse number place
-unfolding _>>=_
-bind-refused {A = A} f e = ap (λ (y : Outcome A). y >>= f) e
-
-pub bind-unit : {A : Type 0} (x : Outcome A) → (x >>= λ a. ok a) ≡ x
-unfolding _>>=_
-bind-unit (ok a) = refl
-bind-unit (refuse number place) = refl
-
-pub bind-same : {A B : Type 0} (x : Outcome A) (f g : A → Outcome B) → ((a : A) → f a ≡ g a) → (x >>= f) ≡ (x >>= g)
-unfolding _>>=_
-bind-same (ok a) f g h = h a
-bind-same (refuse number place) f g h = refl
-
--- one, two and three steps before the last, put together
-
-pub bind-twice : {A B C : Type 0} (x : Outcome A) (f : A → Outcome B) (g : B → Outcome C) → ((x >>= f) >>= g) ≡ (x >>= λ a. f a >>= g)
-unfolding _>>=_
-bind-twice (ok a) f g = refl
-bind-twice (refuse number place) f g = refl
-
-pub bind-thrice : {A B C D : Type 0} (x : Outcome A) (f : A → Outcome B) (g : B → Outcome C) (k : C → Outcome D)
-    → ((x >>= λ a. f a >>= g) >>= k) ≡ (x >>= λ a. f a >>= λ b. g b >>= k)
-unfolding _>>=_
-bind-thrice (ok a) f g k = bind-twice (f a) g k
-bind-thrice (refuse number place) f g k = refl
-
-pub bind-four : {A B C D E : Type 0} (x : Outcome A) (f : A → Outcome B) (g : B → Outcome C) (h : C → Outcome D) (k : D → Outcome E)
-    → ((x >>= λ a. f a >>= λ b. g b >>= h) >>= k) ≡ (x >>= λ a. f a >>= λ b. g b >>= λ c. h c >>= k)
-unfolding _>>=_
-bind-four (ok a) f g h k = bind-thrice (f a) g h k
-bind-four (refuse number place) f g h k = refl
-
--- two steps that succeed each succeed
-pub record Bound {A B : Type 0} (x : Outcome A) (f : A → Outcome B) (b : B) : Type 0 where
-  pub middle : A
-  pub first : x ≡ ok middle
-  pub second : f middle ≡ ok b
-
-pub bind-got : {A B : Type 0} (x : Outcome A) (f : A → Outcome B) {b : B} → (x >>= f) ≡ ok b → Bound x f b
-unfolding _>>=_
-bind-got (ok a) f h = record { middle = a; first = refl; second = h }
-bind-got (refuse number place) f h = absurd (no-answer h)
-
-pub after-self : {A : Type 0} (o : Outcome A) → After (λ a. o ≡ ok a) o
-after-self (ok a) = fine refl
-after-self (refuse number place) = refused
 
 pub accepted : {A : Type 0} {o : Outcome A} {a : A} → o ≡ ok a → Accepted o
 accepted {a = a} e = record { what = a; there = e }
+
+-- what was read is one thing
+pub accepted-what : {A : Type 0} {o : Outcome A} {a : A} (x : Accepted o) → o ≡ ok a → x .what ≡ a
+accepted-what x e = same-ok (sym (x .there) ∙ e)
 
 -- Lists
 
@@ -132,7 +76,7 @@ module _ {A : Type 0} (item : ℕ → Outcome ((A → A) × ℕ)) (nil : A) wher
   pub many-first : (n p : ℕ) → Accepted (all (suc n) p) → Accepted (all 1 p)
   many-first n p h = accepted (many-one p (many-split n p (h .there) .here))
 
-  -- the items behind the first
+  -- the items after the first
   pub many-rest : (n p : ℕ) {a : A} {q : ℕ} → Accepted (all (suc n) p) → all 1 p ≡ ok (a, q) → Accepted (all n q)
   many-rest n p {q = q} h e =
       let f = many-split n p (h .there) in
@@ -148,7 +92,7 @@ module _ {A : Type 0} (item : ℕ → Outcome ((A → A) × ℕ)) (nil : A) wher
       (λ p. after-weaken (each p) λ i h n others r later. (omega (arith, mul-suc m n, h .0, later .0), λ _. later .1 (h .1)))
       (λ p. fine (omega (arith, mul-zero m), λ le. le)) n p
 
--- Reading, and then analysing what was read; `pack` puts the answer and the place behind together
+-- Reading, and then analysing what was read; `pack` puts the answer and the place after together
 
 module _ {A B C : Type 0} (pack : B → ℕ → C) where
   abbrev running : Outcome (A × ℕ) → (A → Outcome B) → Outcome C
@@ -165,9 +109,9 @@ module _ {A B C : Type 0} (pack : B → ℕ → C) where
   run-step z f g k {one} {more} {both} {q} {r} ex ey ez h goes =
       bind-fine _ ex
       ∙ ap (λ (o : Outcome B). o >>= λ b. ok (pack b r)) h
-      ∙ bind-twice (f one) (λ b. g b more) (λ b. ok (pack b r))
-      ∙ bind-same (f one) _ _ (λ b. sym (goes b ∙ bind-fine _ ez))
-      ∙ sym (bind-twice (f one) (λ b. ok (pack b q)) k)
+      ∙ bind-assoc (f one) (λ b. g b more) (λ b. ok (pack b r))
+      ∙ bind-ext (f one) _ _ (λ b. sym (goes b ∙ bind-fine _ ez))
+      ∙ sym (bind-assoc (f one) (λ b. ok (pack b q)) k)
       ∙ ap (λ (o : Outcome C). o >>= k) (sym (bind-fine _ ey))
 
   -- what was analysed had been read, up to that place
@@ -183,3 +127,38 @@ module _ {A B C : Type 0} (pack : B → ℕ → C) where
       let b = bind-got x _ e in
       let d = bind-got (f (b .middle .0)) _ (b .second) in
       record { what = b .middle .0; place = b .middle .1; there = b .first; answer = d .middle; same = same-ok (d .second) }
+
+-- What is analysed one by one: `run` is n of them from a place and a state on, `parts` takes apart what `pack` put together
+
+pub record OneByOne {A B C : Type 0} (read : (n p : ℕ) → Outcome (A × ℕ)) (run : (n p : ℕ) → B → Outcome C) (pack : B → ℕ → C) (parts : C → B × ℕ) : Type 0 where
+  pub none : (p : ℕ) (b : B) → run 0 p b ≡ ok (pack b p)
+  -- the items after the first
+  pub rest : (n p : ℕ) (b : B) {b′ : B} {q : ℕ} → Accepted (read (suc n) p) → run 1 p b ≡ ok (pack b′ q) → Accepted (read n q)
+  pub step : (n p : ℕ) (b : B) → Accepted (read (suc n) p) → run (suc n) p b ≡ (run 1 p b >>= λ c. run n (parts c .1) (parts c .0))
+  -- where the first succeeds the others follow, and where it is refused all are
+  pub next : (n p : ℕ) (b : B) {b′ : B} {q : ℕ} → Accepted (read (suc n) p) → run 1 p b ≡ ok (pack b′ q) → run (suc n) p b ≡ run n q b′
+  pub stop : (n p : ℕ) (b : B) {number place : ℕ} → Accepted (read (suc n) p) → run 1 p b ≡ refuse number place → run (suc n) p b ≡ refuse number place
+
+-- so is a list that is read item by item, where an item's analysis goes before that of the others
+module _ {A B C : Type 0} (item : ℕ → Outcome ((A → A) × ℕ)) (nil : A) (f : A → B → Outcome B) (pack : B → ℕ → C) (parts : C → B × ℕ)
+    (apart : (b : B) (q : ℕ) → parts (pack b q) ≡ (b, q)) (empty : (b : B) → f nil b ≡ ok b)
+    (puts : (p : ℕ) (put : A → A) (q : ℕ) → item p ≡ ok (put, q) → (others : A) (b : B) → f (put others) b ≡ (f (put nil) b >>= λ b. f others b)) where
+  abbrev run-all : ℕ → ℕ → B → Outcome C
+  run-all n p b = many item (none-left nil) n p >>= λ a. f (a .0) b >>= λ b. ok (pack b (a .1))
+
+  run-first : (n p : ℕ) (b : B) → Accepted (many item (none-left nil) (suc n) p) → run-all (suc n) p b ≡ (run-all 1 p b >>= λ c. run-all n (parts c .1) (parts c .0))
+  run-first n p b a =
+      let s = many-split item nil n p (a .there) in
+      run-step pack (λ q. many item (none-left nil) n q) (λ a. f a b) (λ b a. f a b) (λ c. run-all n (parts c .1) (parts c .0)) (a .there) (many-one item nil p (s .here)) (s .later)
+      (ap (λ (a : A). f a b) (s .same) ∙ puts p (s .put) (s .behind) (s .here) (s .others) b) (λ b. ap (λ (x : B × ℕ). run-all n (x .1) (x .0)) (apart b (s .behind)))
+
+  pub one-by-one : OneByOne (λ n p. many item (none-left nil) n p) run-all pack parts
+  one-by-one = record {
+    none = λ p b. bind-fine _ (many-none item nil p) ∙ bind-fine _ (empty b);
+    rest = λ n p b {b′} {q} a e.
+        let r = run-ran pack (many item (none-left nil) 1 p) (λ a. f a b) e in
+        many-rest item nil n p a (r .there ∙ ap (λ (x : B × ℕ). ok (r .what, x .1)) (sym (apart (r .answer) (r .place)) ∙ ap parts (r .same) ∙ apart b′ q));
+    step = run-first;
+    next = λ n p b {b′} {q} a e. run-first n p b a ∙ bind-fine _ e ∙ ap (λ (x : B × ℕ). run-all n (x .1) (x .0)) (apart b′ q);
+    stop = λ n p b a e. run-first n p b a ∙ bind-refused _ e;
+  }

@@ -7,35 +7,30 @@ use mathlib.Core.Path.{_≡_, refl, sym, ap, subst, _∙_}
 use native.Mathlib.Omega.{arith}
 use native.Mathlib.Nat.{add-zero}
 use lib.ListN.{length, getD}
-use lib.Dec.{eqb, leb, ltb}
-use borrow.Author.Tests.{leb-true, eqb-true, ne-eqb}
+use lib.Dec.{leb, ltb}
+use borrow.Author.Tests.{leb-true, ne-eqb}
 use Rattle.rules.specs.Outcome.{Outcome, ok, refuse, choose, given, _>>=_}
-use Rattle.rules.specs.Numbers.{Mark, code, code-at, number-at, numbers-at, is-set}
-use Rattle.rules.specs.Numbers.{ID, TV, VA, AR, LO, IM, FN, OB, PA, AT, NA, PT}
+use Rattle.rules.specs.Numbers.{Mark, code, code-at, number-at, numbers-at, is-set, ID, TV, VA, AR, LO, IM, FN, OB, PA, AT, NA, PT}
 use Rattle.rules.specs.Records.{span-in, size-of, numbers-of, fields, all-in-range, in-range, widths, width}
-use Rattle.rules.specs.Tree.{Expr, Exprs, Binds, Params, Heads, count-exprs, no-exprs, _then_, no-binds, no-heads, fixed, computed}
-use Rattle.rules.specs.Tree.{constants, array, plain, local, function, object}
-use Rattle.rules.specs.FirstWalk.{Allowed, any-expression, object-only, Form, Read, Child, level, Groups, rows, row-of, record-at, below, expr-at, only, nth, nth-span}
-use Rattle.rules.specs.FirstWalk.{an-identity, a-constant, a-variable, an-array, an-import, a-local, a-function, an-object, parts, many, none-left}
-use Rattle.rules.specs.FirstWalk.{expr-item, holder-at, child-at, groups-at, bind-item, param-item, head-item, value-groups, expressions, constant-at, constants-at, front, argument, index-part, assertion, members}
+use Rattle.rules.specs.Tree.{Expr, Exprs, Binds, Params, Heads, count-exprs, no-exprs, _then_, no-binds, no-heads, fixed, computed, constants, array, plain, local, function, object}
+use Rattle.rules.specs.FirstWalk.{Allowed, any-expression, object-only, Form, Read, Child, level, Groups, rows, row-of, record-at, below, expr-at, only, nth, nth-span, an-identity, a-constant, a-variable, an-array, an-import, a-local, a-function, an-object, parts, many, none-left, expr-item, holder-at, child-at, groups-at, bind-item, param-item, head-item, value-groups, expressions, constant-at, constants-at, front, argument, index-part, assertion, members}
 use Rattle.rules.specs.State.{Limits, AnalysisStack}
-use Rattle.rules.specs.Walk.{Place, Naming, unnamed, analyze, analyze-all, analyze-assertions, analyze-values, analyze-binds, analyze-params, analyze-heads, define-binds, define-params}
-use Rattle.rules.specs.Walk.{deeper, in-object, is-empty, is-identity, first-has-default, is-static, object-numbers, head-namings}
+use Rattle.rules.specs.Walk.{Place, Naming, unnamed, analyze, analyze-all, analyze-assertions, analyze-values, analyze-binds, analyze-params, analyze-heads, define-binds, define-params, deeper, in-object, is-empty, is-identity, first-has-default, is-static, object-numbers, head-namings}
 use Rattle.bytes_records.specs.Marks.{mark-of, children}
 use Rattle.bytes_records.specs.Constants.{is-some}
 use Rattle.bytes_records.proofs.Laws.{All, all-none, _also_, mark-code}
-use Rattle.law_runs.specs.Run.{Accepted, holders, item-at, items-at, binds-at, params-at, heads-at, values-at}
-use Rattle.law_runs.specs.Run.{run-expr, run-item, run-items, run-assertions, run-values, run-heads, run-binds, run-params, run-define-binds, run-define-params}
-use Rattle.law_runs.specs.Steps.{span-at, values-from, first-defaults, gives-argument, object-record, and-place, closed-array, finished-local, finished-function, finished-object}
-use Rattle.law_runs.specs.Steps.{identity-steps, variable-steps, import-steps, copied, constants-steps, begun-local, begun-function, begun-object, array-steps, local-steps, function-steps, object-steps, plain-steps}
-use Rattle.rules.proofs.After.{After, fine, after-ok, after-bind, after-choose, after-many, after-weaken, held-some, both-passed, Held, there, nothing, chosen}
+use Rattle.law_runs.specs.Run.{Accepted, holders, item-at, items-at, binds-at, params-at, heads-at, values-at, run-expr, run-item, run-items, run-assertions, run-values, run-heads, run-binds, run-params, run-define-binds, run-define-params}
+use Rattle.law_runs.specs.Steps.{span-at, values-from, first-defaults, gives-argument, object-record, and-place, closed-array, finished-local, finished-function, finished-object, identity-steps, variable-steps, import-steps, copied, constants-steps, begun-local, begun-function, begun-object, array-steps, local-steps, function-steps, object-steps, plain-steps}
+use Rattle.rules.proofs.After.{After, fine, after-ok, after-bind, after-choose, after-many, after-weaken, held-some, both-passed, Held, there, nothing, chosen, after-self}
+use Rattle.rules.proofs.Outcomes.{same-ok, bind-fine, bind-got, bind-left, bind-both, given-some, given-none}
 use Rattle.rules.proofs.ReadRecords.{Every, row-found}
-use Rattle.law_runs.proofs.Reading.{same-ok, both, bind-first, bind-left, bind-both, accepted, accepted-what, after-self}
-use Rattle.law_runs.proofs.Reading.{seen-at, Stands, Opened, expr-opened, expr-known, only-found, expr-anyway-same, expr-anyway}
+use Rattle.rules.proofs.Accepted.{total}
+use Rattle.law_runs.proofs.Reading.{seen-at, Stands, Opened, expr-opened, expr-known, only-found, expr-any}
+use Rattle.law_runs.proofs.Binding.{accepted, accepted-what}
 
--- The place behind what was read and analysed
+-- The place after what was read and analysed
 
--- an answer with the place behind it
+-- an answer with the place after it
 abbrev placed : {B : Type 0} → ℕ → Outcome B → Outcome (B × ℕ)
 placed q o = o >>= λ b. ok (b, q)
 
@@ -45,14 +40,14 @@ placed-kept q o = o >>= λ b. ok (b .0, (b .1, q))
 module _ {A B : Type 0} (x : Outcome (A × ℕ)) where
   run-end : (f : A → Outcome B) {b : B} {q : ℕ} → (x >>= λ a. placed (a .1) (f (a .0))) ≡ ok (b, q) → (a : Accepted x) → a .what .1 ≡ q
   run-end f h a =
-      let r = both x _ h in
-      let t = both (f (r .middle .0)) _ (r .second) in
+      let r = bind-got x _ h in
+      let t = bind-got (f (r .middle .0)) _ (r .second) in
       ap (λ (y : A × ℕ). y .1) (accepted-what a (r .first)) ∙ ap (λ (y : B × ℕ). y .1) (same-ok (t .second))
 
   kept-end : (f : A → Outcome (ℕ × B)) {b : B} {k q : ℕ} → (x >>= λ a. placed-kept (a .1) (f (a .0))) ≡ ok (k, (b, q)) → (a : Accepted x) → a .what .1 ≡ q
   kept-end f h a =
-      let r = both x _ h in
-      let t = both (f (r .middle .0)) _ (r .second) in
+      let r = bind-got x _ h in
+      let t = bind-got (f (r .middle .0)) _ (r .second) in
       ap (λ (y : A × ℕ). y .1) (accepted-what a (r .first)) ∙ ap (λ (y : ℕ × (B × ℕ)). y .1 .1) (same-ok (t .second))
 
 -- what was read ends where the run ended
@@ -64,10 +59,6 @@ module _ (s : List ℕ) (L : Limits) (levels : ℕ) where
       → (a : Accepted (expr-at s levels any-expression p)) → a .what .1 ≡ q′
   unfolding run-expr
   expr-end p naming h st e a = run-end (expr-at s levels any-expression p) (λ x. analyze L x naming h st) e a
-
-  pub item-end : (p : ℕ) (h : Place) (st : AnalysisStack) {st′ : AnalysisStack} {q′ : ℕ} → run-item s L levels p h st ≡ ok (st′, q′) → (a : Accepted (item-at s levels p)) → a .what .1 ≡ q′
-  unfolding run-item
-  item-end p h st e a = run-end (item-at s levels p) (λ x. analyze L x unnamed h st) e a
 
   pub items-end : (n p : ℕ) (h : Place) (st : AnalysisStack) {st′ : AnalysisStack} {q′ : ℕ} → run-items s L levels n p h st ≡ ok (st′, q′) → (a : Accepted (items-at s levels n p)) → a .what .1 ≡ q′
   unfolding run-items
@@ -93,17 +84,9 @@ module _ (s : List ℕ) (L : Limits) (levels : ℕ) where
   unfolding run-params
   params-end n p kept h st e a = kept-end (params-at s levels n p) (λ x. analyze-params L x kept h st) e a
 
-  pub define-binds-end : (n p depth : ℕ) (st : AnalysisStack) {st′ : AnalysisStack} {q′ : ℕ} → run-define-binds s L levels n p depth st ≡ ok (st′, q′) → (a : Accepted (binds-at s levels n p)) → a .what .1 ≡ q′
-  unfolding run-define-binds
-  define-binds-end n p depth st e a = run-end (binds-at s levels n p) (λ x. define-binds L x depth st) e a
-
-  pub define-params-end : (n p depth : ℕ) (st : AnalysisStack) {st′ : AnalysisStack} {q′ : ℕ} → run-define-params s L levels n p depth st ≡ ok (st′, q′) → (a : Accepted (params-at s levels n p)) → a .what .1 ≡ q′
-  unfolding run-define-params
-  define-params-end n p depth st e a = run-end (params-at s levels n p) (λ x. define-params L x depth st) e a
-
 -- What is run, once it is read
 
--- a step, and the same step behind a reading that succeeded
+-- a step, and the same step after a reading that succeeded
 then-read : {A B C : Type 0} (x : Outcome A) (q : ℕ) (f : A → Outcome B) (g : B → Outcome C) {r : Outcome (A × ℕ)} (l : A × ℕ → Outcome C) → r ≡ placed q x
     → ((a : A) → (f a >>= g) ≡ l (a, q)) → ((x >>= f) >>= g) ≡ (r >>= l)
 unfolding _>>=_
@@ -119,46 +102,46 @@ then-kept (refuse number place) q f g l e h = rw e
 module _ (s : List ℕ) (L : Limits) (levels : ℕ) where
   pub run-expr-read : (p : ℕ) (naming : Naming) (h : Place) (st : AnalysisStack) {x : Expr} {q : ℕ} → expr-at s levels any-expression p ≡ ok (x, q) → run-expr s L levels p naming h st ≡ and-place q (analyze L x naming h st)
   unfolding run-expr and-place
-  run-expr-read p naming h st e = bind-first _ e
+  run-expr-read p naming h st e = bind-fine _ e
 
   pub run-item-read : (p : ℕ) (h : Place) (st : AnalysisStack) {x : Expr} {q : ℕ} → item-at s levels p ≡ ok (x, q) → run-item s L levels p h st ≡ and-place q (analyze L x unnamed h st)
   unfolding run-item and-place
-  run-item-read p h st e = bind-first _ e
+  run-item-read p h st e = bind-fine _ e
 
   pub run-items-read : (n p : ℕ) (h : Place) (st : AnalysisStack) {x : Exprs} {q : ℕ} → items-at s levels n p ≡ ok (x, q) → run-items s L levels n p h st ≡ and-place q (analyze-all L x h st)
   unfolding run-items and-place
-  run-items-read n p h st e = bind-first _ e
+  run-items-read n p h st e = bind-fine _ e
 
   pub run-assertions-read : (n p : ℕ) (h : Place) (st : AnalysisStack) {x : Exprs} {q : ℕ} → items-at s levels n p ≡ ok (x, q) → run-assertions s L levels n p h st ≡ and-place q (analyze-assertions L x h st)
   unfolding run-assertions and-place
-  run-assertions-read n p h st e = bind-first _ e
+  run-assertions-read n p h st e = bind-fine _ e
 
   pub run-heads-read : (n p : ℕ) (h : Place) (st : AnalysisStack) {x : Heads} {q : ℕ} → heads-at s levels n p ≡ ok (x, q) → run-heads s L levels n p h st ≡ and-place q (analyze-heads L x h st)
   unfolding run-heads and-place
-  run-heads-read n p h st e = bind-first _ e
+  run-heads-read n p h st e = bind-fine _ e
 
   pub run-values-read : (n heads p : ℕ) (h : Place) (st : AnalysisStack) {hs : Heads} {x : Exprs} {q : ℕ} → values-at s levels n heads p ≡ ok ((hs, x), q)
       → run-values s L levels n heads p h st ≡ and-place q (analyze-values L x (head-namings hs) h st)
   unfolding run-values and-place
-  run-values-read n heads p h st e = bind-first _ e
+  run-values-read n heads p h st e = bind-fine _ e
 
   pub run-binds-read : (n p base kept : ℕ) (h : Place) (st : AnalysisStack) {x : Binds} {q : ℕ} → binds-at s levels n p ≡ ok (x, q)
       → run-binds s L levels n p base kept h st ≡ (analyze-binds L x base kept h st >>= λ a. ok (a .0, (a .1, q)))
   unfolding run-binds
-  run-binds-read n p base kept h st e = bind-first _ e
+  run-binds-read n p base kept h st e = bind-fine _ e
 
   pub run-params-read : (n p kept : ℕ) (h : Place) (st : AnalysisStack) {x : Params} {q : ℕ} → params-at s levels n p ≡ ok (x, q)
       → run-params s L levels n p kept h st ≡ (analyze-params L x kept h st >>= λ a. ok (a .0, (a .1, q)))
   unfolding run-params
-  run-params-read n p kept h st e = bind-first _ e
+  run-params-read n p kept h st e = bind-fine _ e
 
   pub run-define-binds-read : (n p depth : ℕ) (st : AnalysisStack) {x : Binds} {q : ℕ} → binds-at s levels n p ≡ ok (x, q) → run-define-binds s L levels n p depth st ≡ and-place q (define-binds L x depth st)
   unfolding run-define-binds and-place
-  run-define-binds-read n p depth st e = bind-first _ e
+  run-define-binds-read n p depth st e = bind-fine _ e
 
   pub run-define-params-read : (n p depth : ℕ) (st : AnalysisStack) {x : Params} {q : ℕ} → params-at s levels n p ≡ ok (x, q) → run-define-params s L levels n p depth st ≡ and-place q (define-params L x depth st)
   unfolding run-define-params and-place
-  run-define-params-read n p depth st e = bind-first _ e
+  run-define-params-read n p depth st e = bind-fine _ e
 
 -- Records with nothing below them
 
@@ -250,8 +233,8 @@ module _ (s : List ℕ) (levels p : ℕ) (a : Accepted (expr-at s levels any-exp
 
   local-read : LocalRead s levels p
   local-read =
-      let bs = both (binds-at s (levels - 1) (number-at s (p + 2)) (p + 6)) _ (sym local-is ∙ a .there) in
-      let b = both (expr-at s (levels - 1) any-expression (bs .middle .1)) _ (bs .second) in
+      let bs = bind-got (binds-at s (levels - 1) (number-at s (p + 2)) (p + 6)) _ (sym local-is ∙ a .there) in
+      let b = bind-got (expr-at s (levels - 1) any-expression (bs .middle .1)) _ (bs .second) in
       record {
         binds = bs .middle .0;
         after = bs .middle .1;
@@ -285,18 +268,13 @@ some-binds s levels (suc n) p lt =
     λ i put. after-bind _ (after-self _) λ x _. fine (put (x .0))
 
 module _ (s : List ℕ) (L : Limits) (levels p : ℕ) (a : Accepted (expr-at s levels any-expression p)) (e : code-at s p ≡ code LO) where
-  pub local-body : (base kept : ℕ) (h : Place) (st : AnalysisStack) {k : ℕ} {st′ : AnalysisStack} {q : ℕ}
-      → run-binds s L (levels - 1) (number-at s (p + 2)) (p + 6) base kept h st ≡ ok (k, (st′, q)) → Accepted (expr-at s (levels - 1) any-expression q)
-  local-body base kept h st r =
-      local-body-at s levels p a e (ended (local-binds s levels p a e) (binds-end s L (levels - 1) (number-at s (p + 2)) (p + 6) base kept h st r (local-binds s levels p a e)))
-
   -- "`LO` with no binds is its body"
   pub local-none : number-at s (p + 2) ≡ 0 → (naming : Naming) (h : Place) (st : AnalysisStack) → run-expr s L levels p naming h st ≡ run-expr s L (levels - 1) (p + 6) unnamed h st
   unfolding analyze is-empty choose
   local-none z naming h st =
       let b = local-only-body s levels p a e z in
       let w : expr-at s levels any-expression p ≡ ok (local p no-binds (b .what .0), b .what .1) =
-      local-is s levels p a e ∙ bind-first _ (no-binds-read s levels p a e z) ∙ bind-first _ (b .there) in
+      local-is s levels p a e ∙ bind-fine _ (no-binds-read s levels p a e z) ∙ bind-fine _ (b .there) in
       run-expr-read s L levels p naming h st w ∙ sym (run-expr-read s L (levels - 1) (p + 6) unnamed h st (b .there))
 
   pub local-run : 0 < number-at s (p + 2) → (naming : Naming) (h : Place) (st : AnalysisStack) → run-expr s L levels p naming h st ≡ local-steps L s (levels - 1) p h st
@@ -364,8 +342,8 @@ module _ (s : List ℕ) (levels p : ℕ) (a : Accepted (expr-at s levels any-exp
 
   function-read : FunctionRead s levels p
   function-read =
-      let ps = both (params-at s (levels - 1) (number-at s (p + 6)) (p + 10)) _ (sym function-is ∙ a .there) in
-      let b = both (expr-at s (levels - 1) any-expression (ps .middle .1)) _ (ps .second) in
+      let ps = bind-got (params-at s (levels - 1) (number-at s (p + 6)) (p + 10)) _ (sym function-is ∙ a .there) in
+      let b = bind-got (expr-at s (levels - 1) any-expression (ps .middle .1)) _ (ps .second) in
       record {
         params = ps .middle .0;
         after = ps .middle .1;
@@ -389,11 +367,6 @@ module _ (s : List ℕ) (levels p : ℕ) (a : Accepted (expr-at s levels any-exp
       subst (λ (q : ℕ). Accepted (expr-at s (levels - 1) any-expression q)) same (accepted (function-read .body-read))
 
 module _ (s : List ℕ) (L : Limits) (levels p : ℕ) (a : Accepted (expr-at s levels any-expression p)) (e : code-at s p ≡ code FN) where
-  pub function-body : (kept : ℕ) (h : Place) (st : AnalysisStack) {k : ℕ} {st′ : AnalysisStack} {q : ℕ}
-      → run-params s L (levels - 1) (number-at s (p + 6)) (p + 10) kept h st ≡ ok (k, (st′, q)) → Accepted (expr-at s (levels - 1) any-expression q)
-  function-body kept h st r =
-      function-body-at s levels p a e (ended (function-params s levels p a e) (params-end s L (levels - 1) (number-at s (p + 6)) (p + 10) kept h st r (function-params s levels p a e)))
-
   pub function-run : (naming : Naming) (h : Place) (st : AnalysisStack) → run-expr s L levels p naming h st ≡ function-steps L s (levels - 1) p naming h st
   unfolding analyze function-steps begun-function finished-function and-place is-identity gives-argument
   function-run naming h st =
@@ -448,7 +421,7 @@ items-none s levels p = refl
 pub items-next : (s : List ℕ) (levels n p : ℕ) {x : Expr × ℕ} {y : Exprs × ℕ} → item-at s levels p ≡ ok x → items-at s levels n (x .1) ≡ ok y → items-at s levels (suc n) p ≡ ok (x .0 then y .0, y .1)
 unfolding items-at many expr-item
 items-next s levels n p {x} {y} h k =
-    bind-first _ (bind-first _ h) ∙ bind-first _ k
+    bind-fine _ (bind-fine _ h) ∙ bind-fine _ k
 
 -- a child that is read is an item
 abbrev Item : List ℕ → ℕ → Child → Type 0
@@ -457,8 +430,8 @@ Item s levels c = (p : ℕ) → After (λ x. item-at s levels p ≡ ok x) (child
 level-item : (s : List ℕ) (levels : ℕ) (a : Allowed) → Item s levels (level a)
 unfolding child-at
 level-item s levels a p = after-weaken (after-self (expr-at s levels a p)) λ x h.
-    let any = expr-anyway s levels a p (accepted h) in
-    item-plain s levels p (no-holder (code-at s p) (expr-opened s levels any-expression p any .opened .listed)) ∙ expr-anyway-same s levels a p (accepted h) ∙ h
+    let any = expr-any s levels a p h in
+    item-plain s levels p (no-holder (code-at s p) (expr-opened s levels any-expression p (accepted any) .opened .listed)) ∙ any
 
 holder-code : (s : List ℕ) (levels : ℕ) (m : Mark) (n : List ℕ → ℕ) (p : ℕ) → After (λ _. code-at s p ≡ code m) (holder-at s (expr-at s levels) m n p)
 unfolding holder-at
@@ -493,13 +466,8 @@ many-items s levels k read rest one last n p =
     none : (p : ℕ) {y : Exprs × ℕ} → items-at s levels k p ≡ ok y → items-at s levels (0 + k) p ≡ ok y
     none p h = let e : 0 + k ≡ k = omega arith in ap (λ (n : ℕ). items-at s levels n p) e ∙ h
 
--- how many children there are
-unfoldable total : Groups → ℕ
-total [] = 0
-total (g ∷ gs) = g .0 + total gs
-
 groups-items : (s : List ℕ) (levels : ℕ) (gs : Groups) → All (λ g. Item s levels (g .1)) gs → (p : ℕ) → After (λ x. items-at s levels (total gs) p ≡ ok x) (groups-at s (expr-at s levels) gs p)
-unfolding groups-at total none-left
+unfolding groups-at none-left
 groups-items s levels [] all p = fine (items-none s levels p)
 groups-items s levels (g ∷ gs) (here also later) p = many-items s levels (total gs) (child-at s (expr-at s levels) (g .1)) (groups-at s (expr-at s levels) gs) here (groups-items s levels gs later) (g .0) p
 
@@ -540,7 +508,7 @@ module _ (s : List ℕ) (levels p : ℕ) (a : Accepted (expr-at s levels any-exp
     (no-id : code-at s p ≡ code ID → ⊥) (no-tv : code-at s p ≡ code TV → ⊥) (no-va : code-at s p ≡ code VA → ⊥) (no-ar : code-at s p ≡ code AR → ⊥)
     (no-im : code-at s p ≡ code IM → ⊥) (no-lo : code-at s p ≡ code LO → ⊥) (no-fn : code-at s p ≡ code FN → ⊥) (no-ob : code-at s p ≡ code OB → ⊥) where
   plain-rows : (levels : ℕ) → unfold rows in Every (λ (r : Mark × Form). code-at s p ≡ code (r .0) → PlainRow s levels r) (rows any-expression)
-  unfolding rows total children expressions
+  unfolding rows children expressions
   plain-rows levels = (
     (λ e. absurd (no-id e)),
     (
@@ -604,7 +572,7 @@ module _ (s : List ℕ) (levels p : ℕ) (a : Accepted (expr-at s levels any-exp
       let row = plain-row (levels - 1) (o .listed) in
       let is : expr-at s levels any-expression p ≡ (groups-at s (expr-at s (levels - 1)) (row .groups ns) (p + size-of m) >>= λ es. ok (plain p m ns (es .0), es .1)) =
       o .is ∙ ap (λ (f : Form). below s (expr-at s (levels - 1)) f (seen-at s m form p) p) (row .form) in
-      let es = both (groups-at s (expr-at s (levels - 1)) (row .groups ns) (p + size-of m)) _ (sym is ∙ a .there) in
+      let es = bind-got (groups-at s (expr-at s (levels - 1)) (row .groups ns) (p + size-of m)) _ (sym is ∙ a .there) in
       record {
         stands = o .stands;
         items = es .middle .0;
@@ -646,21 +614,6 @@ pub data Holder (c : ℕ) : Type 0 where
   a-part : c ≡ code PT → Holder c
   an-assertion : c ≡ code AT → Holder c
 
-pub holder-found : (c : ℕ) → is-some (row-of c holders) ≡ true → Holder c
-unfolding row-of holders is-some
-holder-found c e =
-    chosen (λ (o : Option (Mark × Child)). is-some o ≡ true → Holder c) (eqb c (code NA)) _ _
-    (λ t _. an-argument (eqb-true _ _ t))
-    (λ _. chosen (λ (o : Option (Mark × Child)). is-some o ≡ true → Holder c) (eqb c (code PT)) _ _
-    (λ t _. a-part (eqb-true _ _ t))
-    (λ _. chosen (λ (o : Option (Mark × Child)). is-some o ≡ true → Holder c) (eqb c (code AT)) _ _
-    (λ t _. an-assertion (eqb-true _ _ t))
-    (λ _. nowhere)))
-    e
-  where
-    nowhere : is-some {A = Mark × Child} none ≡ true → Holder c
-    nowhere e = absurd (false≢true e)
-
 pub record HolderRead (s : List ℕ) (levels p : ℕ) (m : Mark) : Type 0 where
   pub stands : Stands s m p
   pub items : Exprs
@@ -674,11 +627,11 @@ holder-read-as : (s : List ℕ) (levels p : ℕ) (m : Mark) (n : List ℕ → �
 unfolding holder-at
 holder-read-as s levels p m n same is a =
     let ns = numbers-at s (numbers-of m) (p + 2) in
-    let r = both (record-at s (only m) p) _ (sym is ∙ a .there) in
+    let r = bind-got (record-at s (only m) p) _ (sym is ∙ a .there) in
     let found = after-ok (only-found s m p) (r .first) in
     let read : (many (expr-item s (expr-at s levels) (expr-at s levels any-expression)) (none-left no-exprs) (n ns) (p + size-of m) >>= λ es. ok (plain p m ns (es .0), es .1)) ≡ ok (a .what) =
     subst (λ (r : Read (Unit {0})). (many (expr-item s (expr-at s levels) (expr-at s levels any-expression)) (none-left no-exprs) (n (r .numbers)) (r .next) >>= λ es. ok (plain p m (r .numbers) (es .0), es .1)) ≡ ok (a .what)) (found .1) (r .second) in
-    let es = both (many (expr-item s (expr-at s levels) (expr-at s levels any-expression)) (none-left no-exprs) (n ns) (p + size-of m)) _ read in
+    let es = bind-got (many (expr-item s (expr-at s levels) (expr-at s levels any-expression)) (none-left no-exprs) (n ns) (p + size-of m)) _ read in
     record {
       stands = found .0;
       items = es .middle .0;
@@ -697,16 +650,6 @@ module _ (s : List ℕ) (levels p : ℕ) (a : Accepted (item-at s levels p)) whe
   holder-read (an-argument e) = holder-read-is s levels p NA e (holder-read-as s levels p NA (λ ns. 1) (λ ns. refl) (item-held s levels p (named-row (code-at s p) e)) a)
   holder-read (a-part e) = holder-read-is s levels p PT e (holder-read-as s levels p PT (λ ns. 1) (λ ns. refl) (item-held s levels p (part-row (code-at s p) e)) a)
   holder-read (an-assertion e) = holder-read-is s levels p AT e (holder-read-as s levels p AT (λ ns. 1 + getD ns 0 0) (λ ns. refl) (item-held s levels p (assertion-row (code-at s p) e)) a)
-
-  pub holder-marked : Holder (code-at s p) → code-at s p ≡ code (mark-of (code-at s p))
-  holder-marked e = holder-read e .stands .marked
-
-  pub holder-size : Holder (code-at s p) → p + size-of (mark-of (code-at s p)) ≤ length s
-  holder-size e = holder-read e .stands .fits
-
-  pub holder-items : Holder (code-at s p)
-      → Accepted (items-at s levels (children (mark-of (code-at s p)) (numbers-at s (numbers-of (mark-of (code-at s p))) (p + 2))) (p + size-of (mark-of (code-at s p))))
-  holder-items e = accepted (holder-read e .items-read)
 
   module _ (no-na : code-at s p ≡ code NA → ⊥) (no-pt : code-at s p ≡ code PT → ⊥) (no-at : code-at s p ≡ code AT → ⊥) where
     no-row : row-of (code-at s p) holders ≡ none
@@ -772,24 +715,10 @@ unfolding is-some
 is-some-false none e = refl
 is-some-false (some a) e = absurd (false≢true (sym e))
 
--- what is read of an array of constants
-pub constants-values : (s : List ℕ) (n p : ℕ) → is-some (constants-at s n p) ≡ true → constants-at s n p ≡ some (values-from s n p)
-constants-values s n p c =
-    let vs = is-some-true (constants-at s n p) c in
-    vs .is ∙ ap (λ (vs : List ℕ). some vs) (held-some (constants-held s n p) (vs .is) .are)
-
 pub values-count : (s : List ℕ) (n p : ℕ) → length (values-from s n p) ≡ n
 unfolding values-from
 values-count s zero p = refl
 values-count s (suc n) p = ap (λ (n : ℕ). suc n) (values-count s n (p + 6))
-
-given-some : {A B : Type 0} {o : Option B} {b : B} (x : Unit {0} → A) (f : B → A) → o ≡ some b → given o x f ≡ f b
-unfolding given
-given-some x f e = rw e
-
-given-none : {A B : Type 0} {o : Option B} (x : Unit {0} → A) (f : B → A) → o ≡ none → given o x f ≡ x tt
-unfolding given
-given-none x f e = rw e
 
 record ArrayRead (s : List ℕ) (levels p : ℕ) : Type 0 where
   items : Exprs
@@ -821,13 +750,13 @@ module _ (s : List ℕ) (levels p : ℕ) (a : Accepted (expr-at s levels any-exp
 
   module _ (c : is-some (constants-at s (number-at s (p + 2)) (p + 6)) ≡ false) where
     array-read : ArrayRead s levels p
-    unfolding total expressions
+    unfolding expressions
     array-read =
         let k = levels - 1 in
         let n = number-at s (p + 2) in
         let is : expr-at s levels any-expression p ≡ (groups-at s (expr-at s k) (expressions n) (p + 6) >>= λ es. ok (array p (es .0), es .1)) =
         array-is ∙ given-none _ _ (is-some-false (constants-at s n (p + 6)) c) in
-        let es = both (groups-at s (expr-at s k) (expressions n) (p + 6)) _ (sym is ∙ a .there) in
+        let es = bind-got (groups-at s (expr-at s k) (expressions n) (p + 6)) _ (sym is ∙ a .there) in
         record {
           items = es .middle .0;
           end = es .middle .1;
@@ -871,7 +800,7 @@ value-items s levels (fixed place h hs) = level-item s levels _ also value-items
 value-items s levels (computed place h name hs) = level-item s levels _ also value-items s levels hs
 
 value-count : (s : List ℕ) (levels n p : ℕ) → After (λ x. total (value-groups (x .0)) ≡ n) (heads-at s levels n p)
-unfolding heads-at head-item none-left value-groups total
+unfolding heads-at head-item none-left value-groups
 value-count s levels n p =
     after-many (λ (n p : ℕ) (hs : Heads) (q : ℕ). total (value-groups hs) ≡ n) (head-item s (expr-at s levels)) (none-left no-heads)
     (λ p. after-bind _ (after-self _) λ r _. after-choose _ _ _
@@ -921,13 +850,13 @@ module _ (s : List ℕ) (levels p : ℕ) (a : Accepted (expr-at s levels any-exp
       rw (ten, six) at (object-opened .is)
 
   object-read : ObjectRead s levels p
-  unfolding values-at total
+  unfolding values-at
   object-read =
       let k = levels - 1 in
-      let hs = both (heads-at s k (number-at s (p + 10)) (p + 14)) _ (sym object-is ∙ a .there) in
-      let bs = both (binds-at s k (number-at s (p + 2)) (hs .middle .1)) _ (hs .second) in
-      let ts = both (groups-at s (expr-at s k) ((number-at s (p + 6), assertion) ∷ []) (bs .middle .1)) _ (bs .second) in
-      let vs = both (groups-at s (expr-at s k) (value-groups (hs .middle .0)) (ts .middle .1)) _ (ts .second) in
+      let hs = bind-got (heads-at s k (number-at s (p + 10)) (p + 14)) _ (sym object-is ∙ a .there) in
+      let bs = bind-got (binds-at s k (number-at s (p + 2)) (hs .middle .1)) _ (hs .second) in
+      let ts = bind-got (groups-at s (expr-at s k) ((number-at s (p + 6), assertion) ∷ []) (bs .middle .1)) _ (bs .second) in
+      let vs = bind-got (groups-at s (expr-at s k) (value-groups (hs .middle .0)) (ts .middle .1)) _ (ts .second) in
       let told : items-at s k (number-at s (p + 6)) (bs .middle .1) ≡ ok (ts .middle) =
       ap (λ (n : ℕ). items-at s k n (bs .middle .1)) (sym (add-zero (number-at s (p + 6))))
       ∙ after-ok (groups-items s k ((number-at s (p + 6), assertion) ∷ []) (assertion-item s k also all-none) (bs .middle .1)) (ts .first) in
@@ -945,7 +874,7 @@ module _ (s : List ℕ) (levels p : ℕ) (a : Accepted (expr-at s levels any-exp
         heads-read = hs .first;
         binds-read = bs .first;
         assertions-read = told;
-        values-read = bind-first _ (hs .first) ∙ bind-first _ (vs .first);
+        values-read = bind-fine _ (hs .first) ∙ bind-fine _ (vs .first);
         assertions-count = items-count s k (number-at s (p + 6)) (bs .middle .1) told;
         values-count = items-count s k (total (value-groups (hs .middle .0))) (ts .middle .1) valued ∙ after-ok (value-count s k (number-at s (p + 10)) (p + 14)) (hs .first);
         whole = a .there ∙ sym (vs .second);

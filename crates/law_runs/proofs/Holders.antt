@@ -6,7 +6,7 @@ use native.Mathlib.Omega.{arith}
 use lib.ListN.{length}
 use lib.Dec.{ltb}
 use borrow.Author.Tests.{leb-true}
-use Rattle.rules.specs.Outcome.{Outcome, ok, refuse, _>>=_}
+use Rattle.rules.specs.Outcome.{Outcome, ok, _>>=_}
 use Rattle.rules.specs.Numbers.{Mark, code, code-at, number-at, numbers-at, NA, PT, AT}
 use Rattle.rules.specs.Records.{size-of, numbers-of, fields, all-in-range, in-range, widths, width}
 use Rattle.rules.specs.Tree.{Expr, Exprs, no-exprs}
@@ -14,21 +14,16 @@ use Rattle.rules.specs.FirstWalk.{any-expression, many, none-left, expr-item, e
 use Rattle.rules.specs.State.{Limits, AnalysisStack}
 use Rattle.rules.specs.Walk.{Place, unnamed}
 use Rattle.rules.proofs.After.{both-passed}
+use Rattle.rules.proofs.Outcomes.{bind-fine, bind-told, bind-got, bind-assoc}
 use Rattle.bytes_records.specs.Marks.{mark-of, children}
 use Rattle.bytes_records.proofs.Laws.{mark-code}
 use Rattle.law_runs.specs.Run.{Accepted, item-at, items-at, run-expr, run-item, run-items}
 use Rattle.law_runs.specs.Steps.{copied, plain-steps}
-use Rattle.law_runs.proofs.Binding.{many-first, many-rest, many-alone, many-one}
-use Rattle.law_runs.proofs.Reading.{both, bind-first, bind-assoc, accepted, Stands, expr-opened}
-use Rattle.law_runs.proofs.Lists.{item-value, items-step}
+use Rattle.law_runs.proofs.Binding.{many-first, many-rest, many-alone, many-one, accepted}
+use Rattle.law_runs.proofs.Reading.{Stands, expr-opened}
+use Rattle.law_runs.proofs.Lists.{item-value, items-by-one}
 use Rattle.law_runs.proofs.Lists as lists
 use Rattle.law_runs.proofs.Expressions.{Holder, an-argument, a-part, an-assertion, HolderRead, holder-read, holder-run, item-expr, no-holder, item-plain, items-none, items-next, ended, expr-end}
-
--- two steps, of which the second is told what the first answered
-bind-told : {A B : Type 0} (x : Outcome A) (f g : A → Outcome B) → ((a : A) → x ≡ ok a → f a ≡ g a) → (x >>= f) ≡ (x >>= g)
-unfolding _>>=_
-bind-told (ok a) f g h = h a refl
-bind-told (refuse number place) f g h = refl
 
 -- An item where an expression was read
 
@@ -53,7 +48,7 @@ module _ (s : List ℕ) (levels : ℕ) where
   unfolding expr-item
   one-expr p a =
       let o = many-alone (expr-item s (expr-at s levels) (expr-at s levels any-expression)) no-exprs p (a .there) in
-      accepted (both (expr-at s levels any-expression p) _ (o .here) .first)
+      accepted (bind-got (expr-at s levels any-expression p) _ (o .here) .first)
 
   first-expr : (n p : ℕ) → Accepted (exprs-at s levels (suc n) p) → Accepted (expr-at s levels any-expression p)
   first-expr n p a = one-expr p (many-first (expr-item s (expr-at s levels) (expr-at s levels any-expression)) no-exprs n p a)
@@ -62,7 +57,7 @@ module _ (s : List ℕ) (levels : ℕ) where
   unfolding expr-item
   second-expr p {q = q} a h =
       one-expr q (many-rest (expr-item s (expr-at s levels) (expr-at s levels any-expression)) no-exprs 1 p a
-      (many-one (expr-item s (expr-at s levels) (expr-at s levels any-expression)) no-exprs p (bind-first _ h)))
+      (many-one (expr-item s (expr-at s levels) (expr-at s levels any-expression)) no-exprs p (bind-fine _ h)))
 
 -- What holders have in common
 
@@ -169,7 +164,7 @@ module _ (s : List ℕ) (L : Limits) (levels p : ℕ) (a : Accepted (items-at s 
       held-two h st =
           held-run 2 held-both h st
           ∙ ap (λ (o : Outcome (AnalysisStack × ℕ)). o >>= λ x. copied L s (mark-of c) p (x .1) (x .0))
-          (items-step s L levels 1 (p + 6) h st (held-items 2 held-both)
+          (items-by-one s L levels h .step 1 (p + 6) st (held-items 2 held-both)
           ∙ ap (λ (o : Outcome (AnalysisStack × ℕ)). o >>= λ r. run-items s L levels 1 (r .1) h (r .0)) (expr-item-run s levels (p + 6) held-first L h st)
           ∙ bind-told (run-expr s L levels (p + 6) unnamed h st) (λ r. run-items s L levels 1 (r .1) h (r .0)) (λ r. run-expr s L levels (r .1) unnamed h (r .0))
           (λ x e. expr-item-run s levels (x .1) (held-second h st e) L h (x .0)))

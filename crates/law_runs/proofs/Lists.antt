@@ -10,36 +10,41 @@ use Rattle.rules.specs.Outcome.{Outcome, ok, refuse, choose, _>>=_}
 use Rattle.rules.specs.Numbers.{code, code-at, number-at, numbers-at, is-set, bit, BF, BV, PA, FH, FV}
 use Rattle.rules.specs.Records.{Span, size-of, numbers-of, fields, widths, width}
 use Rattle.rules.specs.Depths.{no-dependence}
-use Rattle.rules.specs.Tree.{Expr, Exprs, Binds, Params, Heads, place-of}
-use Rattle.rules.specs.Tree.{no-exprs, _then_, no-binds, bind, no-params, param, param-or, no-heads, fixed, computed}
+use Rattle.rules.specs.Tree.{Expr, Exprs, Binds, Params, Heads, place-of, no-exprs, _then_, no-binds, bind, no-params, param, param-or, no-heads, fixed, computed}
 use Rattle.rules.specs.FirstWalk.{Allowed, any-expression, level, Groups, many, none-left, expr-item, child-at, groups-at, bind-item, param-item, head-item, expr-at, value-groups, value-allowed}
 use Rattle.rules.specs.State.{Limits, AnalysisStack, with-taint, written}
 use Rattle.rules.specs.Writing.{emit, open-frame, close-frame}
 use Rattle.rules.specs.Scoping.{define-local, record-spec-init}
-use Rattle.rules.specs.Walk.{Place, Naming, unnamed, as-method, as-computed-method, bind-naming, head-namings, first-naming, define-binds, define-params}
-use Rattle.rules.specs.Walk.{analyze, analyze-all, analyze-assertions, analyze-values, analyze-binds, analyze-params, analyze-heads}
-use Rattle.rules.proofs.After.{After, fine, after-ok, after-bind}
+use Rattle.rules.specs.Walk.{Place, Naming, unnamed, as-method, as-computed-method, bind-naming, head-namings, first-naming, define-binds, define-params, analyze, analyze-all, analyze-assertions, analyze-values, analyze-binds, analyze-params, analyze-heads}
+use Rattle.rules.proofs.After.{After, fine, after-ok, after-bind, after-self}
+use Rattle.rules.proofs.Outcomes.{same-ok, bind-fine, bind-refused, bind-unit, bind-ext, bind-assoc, bind-four, bind-got, chosen-true, chosen-false}
 use Rattle.bytes_skip.specs.Places.{past, over, expr-past, exprs-past, below-past, held-past}
 use Rattle.bytes_records.specs.Marks.{mark-of, find-mark, marks, children}
 use Rattle.bytes_skip.specs.Behind.{Behind}
 use Rattle.bytes_skip.proofs.Binding.{over-one}
 use Rattle.tree.proofs.Laws.{judged-right}
 use Rattle.tree.proofs.Leaves.{expected-first}
-use Rattle.law_runs.specs.Run.{Accepted, item-at, items-at, binds-at, params-at, heads-at, values-at}
-use Rattle.law_runs.specs.Run.{run-expr, run-item, run-items, run-assertions, run-values, run-heads, run-binds, run-params, run-define-binds, run-define-params}
-use Rattle.law_runs.specs.Steps.{span-at, bind-naming-at, head-naming-at, and-place, closed-value, closed-assertions, opened-value, recorded, closed-spec, head-written}
-use Rattle.law_runs.specs.Steps.{bind-steps, param-steps, head-steps, value-steps, assertions-steps}
-use Rattle.law_runs.proofs.Binding.{same-ok, bind-fine, bind-refused, bind-unit, bind-same, bind-twice, bind-four, bind-got, after-self, accepted}
-use Rattle.law_runs.proofs.Binding.{many-split, many-one, many-alone, many-first, many-rest, many-within, run-step, run-ran}
-use Rattle.law_runs.proofs.Records.{Bind-there, bind-there, Param-there, Param-kind, no-default, with-default, param-there, Head-there, Head-kind, is-fixed, is-computed, head-there, head-at}
-use Rattle.law_runs.proofs.Records.{expr-any, expr-place, expr-within, bind-within, param-within, head-within, item-there}
+use Rattle.rules.proofs.Flags.{unset-of}
+use Rattle.law_runs.specs.Run.{Accepted, item-at, items-at, binds-at, params-at, heads-at, values-at, run-expr, run-item, run-items, run-assertions, run-values, run-heads, run-binds, run-params, run-define-binds, run-define-params}
+use Rattle.law_runs.specs.Steps.{span-at, bind-naming-at, head-naming-at, and-place, closed-value, closed-assertions, opened-value, recorded, closed-spec, head-written, bind-steps, param-steps, head-steps, value-steps, assertions-steps}
+use Rattle.law_runs.proofs.Binding.{accepted, OneByOne, one-by-one, many-split, many-one, many-alone, many-first, many-within, run-step, run-ran}
+use Rattle.law_runs.proofs.Reading.{expr-any, expr-place, expr-within}
+use Rattle.law_runs.proofs.Records.{Bind-there, bind-there, Param-there, Param-kind, no-default, with-default, param-there, Head-there, Head-kind, is-fixed, is-computed, head-there, head-at, bind-within, param-within, head-within, item-there}
 
--- an expression that can be read is analysed, and what follows goes on behind it
+-- an expression that can be read is analysed, and what follows goes on after it
 run-expr-then : {C : Type 0} (s : List ℕ) (limits : Limits) (levels p : ℕ) (naming : Naming) (h : Place) (st : AnalysisStack) (k : AnalysisStack × ℕ → Outcome C) {e : Expr} {q : ℕ}
     → expr-at s levels any-expression p ≡ ok (e, q) → (run-expr s limits levels p naming h st >>= k) ≡ (analyze limits e naming h st >>= λ st. k (st, q))
 unfolding run-expr _>>=_
 run-expr-then {C} s limits levels p naming h st k {e} {q} read =
-    ap (λ (o : Outcome (AnalysisStack × ℕ)). o >>= k) (bind-fine _ read) ∙ bind-twice (analyze limits e naming h st) (λ st. ok (st, q)) k
+    ap (λ (o : Outcome (AnalysisStack × ℕ)). o >>= k) (bind-fine _ read) ∙ bind-assoc (analyze limits e naming h st) (λ st. ok (st, q)) k
+
+-- a list whose analysis leaves the state, and one whose analysis leaves how many specs are kept, too
+
+abbrev pub StatesByOne : {A : Type 0} → ((n p : ℕ) → Outcome (A × ℕ)) → ((n p : ℕ) → AnalysisStack → Outcome (AnalysisStack × ℕ)) → Type 0
+StatesByOne read run = OneByOne read run (λ st q. (st, q)) (λ c. c)
+
+abbrev pub SpecsByOne : {A : Type 0} → ((n p : ℕ) → Outcome (A × ℕ)) → ((n p : ℕ) → ℕ × AnalysisStack → Outcome (ℕ × (AnalysisStack × ℕ))) → Type 0
+SpecsByOne read run = OneByOne read run (λ b q. (b .0, (b .1, q))) (λ c. ((c .0, c .1 .0), c .1 .1))
 
 -- Binds
 
@@ -72,53 +77,15 @@ bind-put s limits levels p base kept h st t bs =
     ∙ ap (λ (o : Outcome (ℕ × AnalysisStack)). o >>= λ b. analyze-binds limits bs base (b .0) h (b .1))
     (sym (bind-alone limits p _ _ _ (t .value) base kept h st) ∙ ap (λ (x : Binds). analyze-binds limits x base kept h st) (sym (t .puts no-binds)))
 
-pub binds-none : (s : List ℕ) (limits : Limits) (levels p base kept : ℕ) (h : Place) (st : AnalysisStack) → run-binds s limits levels 0 p base kept h st ≡ ok (kept, (st, p))
-unfolding run-binds binds-at many none-left analyze-binds _>>=_
-binds-none s limits levels p base kept h st = refl
-
 pub binds-first : (s : List ℕ) (levels n p : ℕ) → Accepted (binds-at s levels (suc n) p) → Accepted (binds-at s levels 1 p)
 unfolding binds-at
 binds-first s levels n p a = many-first (bind-item s (expr-at s levels)) no-binds n p a
 
--- with what was read instead of what was run
-pub binds-behind : (s : List ℕ) (levels n p : ℕ) {b : Binds} {q : ℕ} → Accepted (binds-at s levels (suc n) p) → binds-at s levels 1 p ≡ ok (b, q) → Accepted (binds-at s levels n q)
-unfolding binds-at
-binds-behind s levels n p a e = many-rest (bind-item s (expr-at s levels)) no-binds n p a e
-
--- the place that a run gives is the place behind what was read
-pub binds-ran : (s : List ℕ) (limits : Limits) (levels n p base kept : ℕ) (h : Place) (st : AnalysisStack) {k q : ℕ} {st′ : AnalysisStack}
-    → run-binds s limits levels n p base kept h st ≡ ok (k, (st′, q)) → (b : Binds) × (binds-at s levels n p ≡ ok (b, q))
-unfolding run-binds
-binds-ran s limits levels n p base kept h st e =
-    let r = run-ran (λ (b : ℕ × AnalysisStack) (q : ℕ). (b .0, (b .1, q))) (binds-at s levels n p) (λ bs. analyze-binds limits bs base kept h st) e in
-    (r .what, r .there ∙ ap (λ (c : ℕ × (AnalysisStack × ℕ)). ok (r .what, c .1 .1)) (r .same))
-
-pub binds-rest : (s : List ℕ) (limits : Limits) (levels n p base kept : ℕ) (h : Place) (st : AnalysisStack) {k q : ℕ} {st′ : AnalysisStack}
-    → Accepted (binds-at s levels (suc n) p) → run-binds s limits levels 1 p base kept h st ≡ ok (k, (st′, q)) → Accepted (binds-at s levels n q)
-binds-rest s limits levels n p base kept h st a e = binds-behind s levels n p a (binds-ran s limits levels 1 p base kept h st e .1)
-
-pub binds-step : (s : List ℕ) (limits : Limits) (levels n p base kept : ℕ) (h : Place) (st : AnalysisStack) → Accepted (binds-at s levels (suc n) p)
-    → run-binds s limits levels (suc n) p base kept h st ≡ (run-binds s limits levels 1 p base kept h st >>= λ r. run-binds s limits levels n (r .1 .1) base (r .0) h (r .1 .0))
-unfolding run-binds binds-at
-binds-step s limits levels n p base kept h st a =
-    let item = bind-item s (expr-at s levels) in
-    let f = many-split item no-binds n p (a .there) in
-    let t = bind-there s levels p (f .here) in
-    run-step (λ (b : ℕ × AnalysisStack) (q : ℕ). (b .0, (b .1, q))) (λ q. many item (none-left no-binds) n q) (λ bs. analyze-binds limits bs base kept h st)
-    (λ b bs. analyze-binds limits bs base (b .0) h (b .1)) (λ r. run-binds s limits levels n (r .1 .1) base (r .0) h (r .1 .0))
-    (a .there) (many-one item no-binds p (f .here)) (f .later)
-    (ap (λ (bs : Binds). analyze-binds limits bs base kept h st) (f .same) ∙ bind-put s limits levels p base kept h st t (f .others))
-    (λ b. refl)
-
--- where the first succeeds the others follow, and where it is refused all are
-
-pub binds-next : (s : List ℕ) (limits : Limits) (levels n p base kept : ℕ) (h : Place) (st : AnalysisStack) {k q : ℕ} {st′ : AnalysisStack} → Accepted (binds-at s levels (suc n) p)
-    → run-binds s limits levels 1 p base kept h st ≡ ok (k, (st′, q)) → run-binds s limits levels (suc n) p base kept h st ≡ run-binds s limits levels n q base k h st′
-binds-next s limits levels n p base kept h st a e = binds-step s limits levels n p base kept h st a ∙ bind-fine _ e
-
-pub binds-stop : (s : List ℕ) (limits : Limits) (levels n p base kept : ℕ) (h : Place) (st : AnalysisStack) {number place : ℕ} → Accepted (binds-at s levels (suc n) p)
-    → run-binds s limits levels 1 p base kept h st ≡ refuse number place → run-binds s limits levels (suc n) p base kept h st ≡ refuse number place
-binds-stop s limits levels n p base kept h st a e = binds-step s limits levels n p base kept h st a ∙ bind-refused _ e
+pub binds-by-one : (s : List ℕ) (limits : Limits) (levels base : ℕ) (h : Place)
+    → SpecsByOne (binds-at s levels) (λ n p b. run-binds s limits levels n p base (b .0) h (b .1))
+unfolding run-binds binds-at analyze-binds
+binds-by-one s limits levels base h = one-by-one (bind-item s (expr-at s levels)) no-binds (λ bs b. analyze-binds limits bs base (b .0) h (b .1)) _ _ (λ b q. refl) (λ b. refl)
+    λ p put q e bs b. bind-put s limits levels p base (b .0) h (b .1) (bind-there s levels p e) bs
 
 -- one bind
 
@@ -153,7 +120,7 @@ bind-run s limits levels p base kept h st a =
     ∙ ap (λ (bs : Binds). analyze-binds limits bs base kept h st >>= λ b. ok (b .0, (b .1, q))) (o .same)
     ∙ ap (λ (x : Outcome (ℕ × AnalysisStack)). x >>= λ b. ok (b .0, (b .1, q))) (bind-alone limits p _ _ _ (o .value) base kept h st)
     ∙ bind-four (open-frame limits p false (with-taint no-dependence st)) (analyze limits (o .value) naming h) (close-frame limits p) record-it (λ b. ok (b .0, (b .1, q)))
-    ∙ bind-same (open-frame limits p false (with-taint no-dependence st)) _ _ (λ opened. sym (run-expr-then s limits levels (p + 10) naming h opened _ (o .read)))
+    ∙ bind-ext (open-frame limits p false (with-taint no-dependence st)) _ _ (λ opened. sym (run-expr-then s limits levels (p + 10) naming h opened _ (o .read)))
 
 -- how far they go
 
@@ -180,13 +147,6 @@ pub define-binds-none : (s : List ℕ) (limits : Limits) (levels p depth : ℕ) 
 unfolding run-define-binds binds-at many none-left define-binds _>>=_
 define-binds-none s limits levels p depth st = refl
 
-pub define-binds-ran : (s : List ℕ) (limits : Limits) (levels n p depth : ℕ) (st : AnalysisStack) {q : ℕ} {st′ : AnalysisStack}
-    → run-define-binds s limits levels n p depth st ≡ ok (st′, q) → (b : Binds) × (binds-at s levels n p ≡ ok (b, q))
-unfolding run-define-binds
-define-binds-ran s limits levels n p depth st e =
-    let r = run-ran (λ (b : AnalysisStack) (q : ℕ). (b, q)) (binds-at s levels n p) (λ b. define-binds limits b depth st) e in
-    (r .what, r .there ∙ ap (λ (c : AnalysisStack × ℕ). ok (r .what, c .1)) (r .same))
-
 pub define-binds-step : (s : List ℕ) (limits : Limits) (levels n p depth : ℕ) (st : AnalysisStack) {b : Binds} {q : ℕ} → Accepted (binds-at s levels (suc n) p) → binds-at s levels 1 p ≡ ok (b, q)
     → run-define-binds s limits levels (suc n) p depth st ≡ (define-local limits p (number-at s (p + 2)) (span-at s (p + 6)) depth st >>= λ st. run-define-binds s limits levels n q depth st)
 unfolding run-define-binds binds-at define-binds
@@ -198,8 +158,8 @@ define-binds-step s limits levels n p depth st {b} {q} a e =
     let later : many item (none-left no-binds) n q ≡ ok (f .others, a .what .1) = ap (λ (x : Binds × ℕ). many item (none-left no-binds) n (x .1)) (sym g) ∙ f .later in
     bind-fine _ (a .there)
     ∙ ap (λ (bs : Binds). define-binds limits bs depth st >>= λ st. ok (st, a .what .1)) (f .same ∙ t .puts (f .others))
-    ∙ bind-twice (define-local limits p (number-at s (p + 2)) (span-at s (p + 6)) depth st) (define-binds limits (f .others) depth) (λ st. ok (st, a .what .1))
-    ∙ bind-same (define-local limits p (number-at s (p + 2)) (span-at s (p + 6)) depth st) _ _ (λ defined. sym (bind-fine _ later))
+    ∙ bind-assoc (define-local limits p (number-at s (p + 2)) (span-at s (p + 6)) depth st) (define-binds limits (f .others) depth) (λ st. ok (st, a .what .1))
+    ∙ bind-ext (define-local limits p (number-at s (p + 2)) (span-at s (p + 6)) depth st) _ _ (λ defined. sym (bind-fine _ later))
 
 -- Items
 
@@ -228,51 +188,14 @@ item-put s limits levels p h st t es =
     ∙ item-then limits (t .expr) es h st
     ∙ ap (λ (x : Exprs). analyze-all limits x h st >>= λ st. analyze-all limits es h st) (sym (t .puts no-exprs))
 
-pub items-none : (s : List ℕ) (limits : Limits) (levels p : ℕ) (h : Place) (st : AnalysisStack) → run-items s limits levels 0 p h st ≡ ok (st, p)
-unfolding run-items items-at many none-left analyze-all _>>=_
-items-none s limits levels p h st = refl
-
 pub items-first : (s : List ℕ) (levels n p : ℕ) → Accepted (items-at s levels (suc n) p) → Accepted (items-at s levels 1 p)
 unfolding items-at
 items-first s levels n p a = many-first (expr-item s (expr-at s levels) (item-at s levels)) no-exprs n p a
 
-pub items-behind : (s : List ℕ) (levels n p : ℕ) {es : Exprs} {q : ℕ} → Accepted (items-at s levels (suc n) p) → items-at s levels 1 p ≡ ok (es, q) → Accepted (items-at s levels n q)
-unfolding items-at
-items-behind s levels n p a e = many-rest (expr-item s (expr-at s levels) (item-at s levels)) no-exprs n p a e
-
-pub items-ran : (s : List ℕ) (limits : Limits) (levels n p : ℕ) (h : Place) (st : AnalysisStack) {q : ℕ} {st′ : AnalysisStack}
-    → run-items s limits levels n p h st ≡ ok (st′, q) → (es : Exprs) × (items-at s levels n p ≡ ok (es, q))
-unfolding run-items
-items-ran s limits levels n p h st e =
-    let r = run-ran (λ (b : AnalysisStack) (q : ℕ). (b, q)) (items-at s levels n p) (λ es. analyze-all limits es h st) e in
-    (r .what, r .there ∙ ap (λ (c : AnalysisStack × ℕ). ok (r .what, c .1)) (r .same))
-
-pub items-rest : (s : List ℕ) (limits : Limits) (levels n p : ℕ) (h : Place) (st : AnalysisStack) {q : ℕ} {st′ : AnalysisStack}
-    → Accepted (items-at s levels (suc n) p) → run-items s limits levels 1 p h st ≡ ok (st′, q) → Accepted (items-at s levels n q)
-items-rest s limits levels n p h st a e = items-behind s levels n p a (items-ran s limits levels 1 p h st e .1)
-
-pub items-step : (s : List ℕ) (limits : Limits) (levels n p : ℕ) (h : Place) (st : AnalysisStack) → Accepted (items-at s levels (suc n) p)
-    → run-items s limits levels (suc n) p h st ≡ (run-items s limits levels 1 p h st >>= λ r. run-items s limits levels n (r .1) h (r .0))
-unfolding run-items items-at
-items-step s limits levels n p h st a =
-    let item = expr-item s (expr-at s levels) (item-at s levels) in
-    let f = many-split item no-exprs n p (a .there) in
-    let t = item-read s levels p (f .here) in
-    run-step (λ (b : AnalysisStack) (q : ℕ). (b, q)) (λ q. many item (none-left no-exprs) n q) (λ es. analyze-all limits es h st)
-    (λ b es. analyze-all limits es h b) (λ r. run-items s limits levels n (r .1) h (r .0))
-    (a .there) (many-one item no-exprs p (f .here)) (f .later)
-    (ap (λ (es : Exprs). analyze-all limits es h st) (f .same) ∙ item-put s limits levels p h st t (f .others))
-    (λ b. refl)
-
--- where the first succeeds the others follow, and where it is refused all are
-
-pub items-next : (s : List ℕ) (limits : Limits) (levels n p : ℕ) (h : Place) (st : AnalysisStack) {q : ℕ} {st′ : AnalysisStack} → Accepted (items-at s levels (suc n) p)
-    → run-items s limits levels 1 p h st ≡ ok (st′, q) → run-items s limits levels (suc n) p h st ≡ run-items s limits levels n q h st′
-items-next s limits levels n p h st a e = items-step s limits levels n p h st a ∙ bind-fine _ e
-
-pub items-stop : (s : List ℕ) (limits : Limits) (levels n p : ℕ) (h : Place) (st : AnalysisStack) {number place : ℕ} → Accepted (items-at s levels (suc n) p)
-    → run-items s limits levels 1 p h st ≡ refuse number place → run-items s limits levels (suc n) p h st ≡ refuse number place
-items-stop s limits levels n p h st a e = items-step s limits levels n p h st a ∙ bind-refused _ e
+pub items-by-one : (s : List ℕ) (limits : Limits) (levels : ℕ) (h : Place) → StatesByOne (items-at s levels) (λ n p st. run-items s limits levels n p h st)
+unfolding run-items items-at analyze-all
+items-by-one s limits levels h = one-by-one (expr-item s (expr-at s levels) (item-at s levels)) no-exprs (λ es st. analyze-all limits es h st) _ _ (λ b q. refl) (λ b. refl)
+    λ p put q e es st. item-put s limits levels p h st (item-read s levels p e) es
 
 -- one item
 
@@ -312,38 +235,11 @@ items-within s levels n p e = after-ok (many-within (expr-item s (expr-at s leve
 pub items-end : (s : List ℕ) (levels n p : ℕ) {es : Exprs} {q : ℕ} → items-at s levels n p ≡ ok (es, q) → p ≤ length s → (p ≤ q) × (q ≤ length s)
 items-end s levels n p e le = let w = items-within s levels n p e in (omega (arith, w .0), w .1 le)
 
-pub items-room : (s : List ℕ) (levels n p : ℕ) → Accepted (items-at s levels n p) → p ≤ length s → p + 2 * n ≤ length s
-items-room s levels n p a le = let w = items-within s levels n p (a .there) in omega (arith, w .0, w .1 le)
-
-pub item-fits : (s : List ℕ) (levels p : ℕ) → Accepted (items-at s levels 1 p) → p + 2 ≤ length s
-item-fits s levels p a = let t = item-there s levels p (one-item s levels p (a .there) .read) in omega (arith, t .far, t .fits)
-
-pub items-short : (s : List ℕ) (levels n p : ℕ) → Accepted (items-at s levels n p) → n ≤ length s
-items-short s levels zero p a = omega arith
-items-short s levels (suc n) p a =
-    let fits = item-fits s levels p (items-first s levels n p a) in
-    let inside : p ≤ length s = omega arith in
-    omega (arith, items-room s levels (suc n) p a inside)
-
 -- Heads
-
--- a chosen branch
-
-chosen-set : {A : Type 0} {b : Bool} (x y : Unit {0} → A) → b ≡ true → choose b x y ≡ x tt
-unfolding choose
-chosen-set {A} x y e = ap (λ (b : Bool). choose b x y) e
-
-chosen-unset : {A : Type 0} {b : Bool} (x y : Unit {0} → A) → b ≡ false → choose b x y ≡ y tt
-unfolding choose
-chosen-unset {A} x y e = ap (λ (b : Bool). choose b x y) e
 
 set-one : {n : ℕ} → n ≡ 1 → is-set n ≡ true
 unfolding is-set
 set-one e = ap is-set e
-
-unset-zero : {n : ℕ} → n ≡ 0 → is-set n ≡ false
-unfolding is-set
-unset-zero e = ap is-set e
 
 -- what a head writes
 
@@ -375,12 +271,12 @@ fixed-then limits s p hs h st = refl
 computed-alone : (limits : Limits) (s : List ℕ) (p : ℕ) (name : Expr) (h : Place) (st : AnalysisStack)
     → analyze-heads limits (computed p (head-at s p) name no-heads) h st ≡ (analyze limits name unnamed h st >>= computed-record limits s p)
 unfolding analyze-heads computed-record
-computed-alone limits s p name h st = bind-same (analyze limits name unnamed h st) _ _ (λ st. bind-unit (computed-record limits s p st))
+computed-alone limits s p name h st = bind-ext (analyze limits name unnamed h st) _ _ (λ st. bind-unit (computed-record limits s p st))
 
 computed-then : (limits : Limits) (s : List ℕ) (p : ℕ) (name : Expr) (hs : Heads) (h : Place) (st : AnalysisStack)
     → analyze-heads limits (computed p (head-at s p) name hs) h st ≡ ((analyze limits name unnamed h st >>= computed-record limits s p) >>= λ st. analyze-heads limits hs h st)
 unfolding analyze-heads computed-record
-computed-then limits s p name hs h st = sym (bind-twice (analyze limits name unnamed h st) (computed-record limits s p) (λ st. analyze-heads limits hs h st))
+computed-then limits s p name hs h st = sym (bind-assoc (analyze limits name unnamed h st) (computed-record limits s p) (λ st. analyze-heads limits hs h st))
 
 head-put : (s : List ℕ) (limits : Limits) (levels p : ℕ) (h : Place) (st : AnalysisStack) {put : Heads → Heads} {q : ℕ} → Head-kind s levels p put q → (hs : Heads)
     → analyze-heads limits (put hs) h st ≡ (analyze-heads limits (put no-heads) h st >>= λ st. analyze-heads limits hs h st)
@@ -393,51 +289,14 @@ head-put s limits levels p h st (is-computed z name read puts) hs =
     ∙ computed-then limits s p name hs h st
     ∙ ap (λ (o : Outcome AnalysisStack). o >>= λ st. analyze-heads limits hs h st) (sym (computed-alone limits s p name h st) ∙ ap (λ (x : Heads). analyze-heads limits x h st) (sym (puts no-heads)))
 
-pub heads-none : (s : List ℕ) (limits : Limits) (levels p : ℕ) (h : Place) (st : AnalysisStack) → run-heads s limits levels 0 p h st ≡ ok (st, p)
-unfolding run-heads heads-at many none-left analyze-heads _>>=_
-heads-none s limits levels p h st = refl
-
 pub heads-first : (s : List ℕ) (levels n p : ℕ) → Accepted (heads-at s levels (suc n) p) → Accepted (heads-at s levels 1 p)
 unfolding heads-at
 heads-first s levels n p a = many-first (head-item s (expr-at s levels)) no-heads n p a
 
-pub heads-behind : (s : List ℕ) (levels n p : ℕ) {hs : Heads} {q : ℕ} → Accepted (heads-at s levels (suc n) p) → heads-at s levels 1 p ≡ ok (hs, q) → Accepted (heads-at s levels n q)
-unfolding heads-at
-heads-behind s levels n p a e = many-rest (head-item s (expr-at s levels)) no-heads n p a e
-
-pub heads-ran : (s : List ℕ) (limits : Limits) (levels n p : ℕ) (h : Place) (st : AnalysisStack) {q : ℕ} {st′ : AnalysisStack}
-    → run-heads s limits levels n p h st ≡ ok (st′, q) → (hs : Heads) × (heads-at s levels n p ≡ ok (hs, q))
-unfolding run-heads
-heads-ran s limits levels n p h st e =
-    let r = run-ran (λ (b : AnalysisStack) (q : ℕ). (b, q)) (heads-at s levels n p) (λ hs. analyze-heads limits hs h st) e in
-    (r .what, r .there ∙ ap (λ (c : AnalysisStack × ℕ). ok (r .what, c .1)) (r .same))
-
-pub heads-rest : (s : List ℕ) (limits : Limits) (levels n p : ℕ) (h : Place) (st : AnalysisStack) {q : ℕ} {st′ : AnalysisStack}
-    → Accepted (heads-at s levels (suc n) p) → run-heads s limits levels 1 p h st ≡ ok (st′, q) → Accepted (heads-at s levels n q)
-heads-rest s limits levels n p h st a e = heads-behind s levels n p a (heads-ran s limits levels 1 p h st e .1)
-
-pub heads-step : (s : List ℕ) (limits : Limits) (levels n p : ℕ) (h : Place) (st : AnalysisStack) → Accepted (heads-at s levels (suc n) p)
-    → run-heads s limits levels (suc n) p h st ≡ (run-heads s limits levels 1 p h st >>= λ r. run-heads s limits levels n (r .1) h (r .0))
-unfolding run-heads heads-at
-heads-step s limits levels n p h st a =
-    let item = head-item s (expr-at s levels) in
-    let f = many-split item no-heads n p (a .there) in
-    let t = head-there s levels p (f .here) in
-    run-step (λ (b : AnalysisStack) (q : ℕ). (b, q)) (λ q. many item (none-left no-heads) n q) (λ hs. analyze-heads limits hs h st)
-    (λ b hs. analyze-heads limits hs h b) (λ r. run-heads s limits levels n (r .1) h (r .0))
-    (a .there) (many-one item no-heads p (f .here)) (f .later)
-    (ap (λ (hs : Heads). analyze-heads limits hs h st) (f .same) ∙ head-put s limits levels p h st (t .kind) (f .others))
-    (λ b. refl)
-
--- where the first succeeds the others follow, and where it is refused all are
-
-pub heads-next : (s : List ℕ) (limits : Limits) (levels n p : ℕ) (h : Place) (st : AnalysisStack) {q : ℕ} {st′ : AnalysisStack} → Accepted (heads-at s levels (suc n) p)
-    → run-heads s limits levels 1 p h st ≡ ok (st′, q) → run-heads s limits levels (suc n) p h st ≡ run-heads s limits levels n q h st′
-heads-next s limits levels n p h st a e = heads-step s limits levels n p h st a ∙ bind-fine _ e
-
-pub heads-stop : (s : List ℕ) (limits : Limits) (levels n p : ℕ) (h : Place) (st : AnalysisStack) {number place : ℕ} → Accepted (heads-at s levels (suc n) p)
-    → run-heads s limits levels 1 p h st ≡ refuse number place → run-heads s limits levels (suc n) p h st ≡ refuse number place
-heads-stop s limits levels n p h st a e = heads-step s limits levels n p h st a ∙ bind-refused _ e
+pub heads-by-one : (s : List ℕ) (limits : Limits) (levels : ℕ) (h : Place) → StatesByOne (heads-at s levels) (λ n p st. run-heads s limits levels n p h st)
+unfolding run-heads heads-at analyze-heads
+heads-by-one s limits levels h = one-by-one (head-item s (expr-at s levels)) no-heads (λ hs st. analyze-heads limits hs h st) _ _ (λ b q. refl) (λ b. refl)
+    λ p put q e hs st. head-put s limits levels p h st (head-there s levels p e .kind) hs
 
 -- one head
 
@@ -456,17 +315,6 @@ one-head s levels p e =
 pub head-fits : (s : List ℕ) (levels p : ℕ) → Accepted (heads-at s levels 1 p) → p + 26 ≤ length s
 head-fits s levels p a = one-head s levels p (a .there) .there .fits
 
-pub heads-fit : (s : List ℕ) (levels n p : ℕ) → Accepted (heads-at s levels (suc n) p) → p + 26 ≤ length s
-heads-fit s levels n p a = head-fits s levels p (heads-first s levels n p a)
-
--- its kind is 0 or 1
-pub head-kind-small : (s : List ℕ) (levels p : ℕ) → Accepted (heads-at s levels 1 p) → number-at s (p + 2) ≤ 1
-head-kind-small s levels p a = by (one-head s levels p (a .there) .there .kind)
-  where
-    by : {put : Heads → Heads} {q : ℕ} → Head-kind s levels p put q → number-at s (p + 2) ≤ 1
-    by (is-fixed z e puts) = omega arith
-    by (is-computed z name read puts) = omega arith
-
 pub head-name : (s : List ℕ) (levels p : ℕ) → Accepted (heads-at s levels 1 p) → (number-at s (p + 2) ≡ 0 → ⊥) → Accepted (expr-at s levels any-expression (p + 26))
 head-name s levels p a nz = by (one-head s levels p (a .there) .there .kind)
   where
@@ -474,22 +322,7 @@ head-name s levels p a nz = by (one-head s levels p (a .there) .there .kind)
     by (is-fixed z e puts) = absurd (nz z)
     by (is-computed z name read puts) = accepted read
 
--- the place behind it
-
-pub head-behind-fixed : (s : List ℕ) (levels p : ℕ) {hs : Heads} {q : ℕ} → heads-at s levels 1 p ≡ ok (hs, q) → number-at s (p + 2) ≡ 0 → q ≡ p + 26
-head-behind-fixed s levels p {hs} {q} a z = by (one-head s levels p a .there .kind)
-  where
-    by : {put : Heads → Heads} → Head-kind s levels p put q → q ≡ p + 26
-    by (is-fixed z e puts) = e
-    by (is-computed o name read puts) = absurd (omega arith)
-
-pub head-behind-computed : (s : List ℕ) (levels p : ℕ) {hs : Heads} {q : ℕ} → heads-at s levels 1 p ≡ ok (hs, q) → (number-at s (p + 2) ≡ 0 → ⊥)
-    → (name : Expr) × (expr-at s levels any-expression (p + 26) ≡ ok (name, q))
-head-behind-computed s levels p {hs} {q} a nz = by (one-head s levels p a .there .kind)
-  where
-    by : {put : Heads → Heads} → Head-kind s levels p put q → (name : Expr) × (expr-at s levels any-expression (p + 26) ≡ ok (name, q))
-    by (is-fixed z e puts) = absurd (nz z)
-    by (is-computed o name read puts) = (name, read)
+-- the place after it
 
 pub head-run : (s : List ℕ) (limits : Limits) (levels p : ℕ) (h : Place) (st : AnalysisStack) → Accepted (heads-at s levels 1 p)
     → run-heads s limits levels 1 p h st ≡ head-steps limits s levels p h st
@@ -506,17 +339,17 @@ head-run s limits levels p h st a =
         ∙ ap (λ (o : Outcome AnalysisStack). o >>= λ st. ok (st, q)) (fixed-alone limits s p h st)
         ∙ ap (λ (q : ℕ). fixed-record limits s p st >>= λ st. ok (st, q)) e
         ∙ sym (written-fixed limits s p (p + 26) st z)
-        ∙ sym (chosen-unset _ _ (unset-zero z))
+        ∙ sym (chosen-false _ _ (unset-of z))
 
     computed-run : (q : ℕ) (hs : Heads) (name : Expr) → hs ≡ computed p (head-at s p) name no-heads → number-at s (p + 2) ≡ 1 → expr-at s levels any-expression (p + 26) ≡ ok (name, q)
         → (analyze-heads limits hs h st >>= λ st. ok (st, q)) ≡ head-steps limits s levels p h st
     computed-run q hs name same z read =
         ap (λ (hs : Heads). analyze-heads limits hs h st >>= λ st. ok (st, q)) same
         ∙ ap (λ (o : Outcome AnalysisStack). o >>= λ st. ok (st, q)) (computed-alone limits s p name h st)
-        ∙ bind-twice (analyze limits name unnamed h st) (computed-record limits s p) (λ st. ok (st, q))
-        ∙ bind-same (analyze limits name unnamed h st) _ _ (λ st. sym (written-computed limits s p q st z))
+        ∙ bind-assoc (analyze limits name unnamed h st) (computed-record limits s p) (λ st. ok (st, q))
+        ∙ bind-ext (analyze limits name unnamed h st) _ _ (λ st. sym (written-computed limits s p q st z))
         ∙ sym (run-expr-then s limits levels (p + 26) unnamed h st (λ r. head-written limits s p (r .1) (r .0)) read)
-        ∙ sym (chosen-set _ _ (set-one z))
+        ∙ sym (chosen-true _ _ (set-one z))
 
     by : {put : Heads → Heads} {q : ℕ} → Head-kind s levels p put q → (analyze-heads limits (put no-heads) h st >>= λ st. ok (st, q)) ≡ head-steps limits s levels p h st
     by {put} {q} (is-fixed z e puts) = fixed-run q (put no-heads) (puts no-heads) z e
@@ -528,25 +361,14 @@ pub heads-within : (s : List ℕ) (levels n p : ℕ) {hs : Heads} {q : ℕ} → 
 unfolding heads-at
 heads-within s levels n p e = after-ok (many-within (head-item s (expr-at s levels)) no-heads (length s) 26 (head-within s levels) n p) e
 
-pub heads-end : (s : List ℕ) (levels n p : ℕ) {hs : Heads} {q : ℕ} → heads-at s levels n p ≡ ok (hs, q) → p ≤ length s → (p ≤ q) × (q ≤ length s)
-heads-end s levels n p e le = let w = heads-within s levels n p e in (omega (arith, w .0), w .1 le)
-
-pub heads-room : (s : List ℕ) (levels n p : ℕ) → Accepted (heads-at s levels n p) → p ≤ length s → p + 26 * n ≤ length s
-heads-room s levels n p a le = let w = heads-within s levels n p (a .there) in omega (arith, w .0, w .1 le)
-
-pub heads-short : (s : List ℕ) (levels n p : ℕ) → Accepted (heads-at s levels n p) → n ≤ length s
-heads-short s levels zero p a = omega arith
-heads-short s levels (suc n) p a =
-    let fits = heads-fit s levels n p a in
-    let inside : p ≤ length s = omega arith in
-    omega (arith, heads-room s levels (suc n) p a inside)
-
 -- `after_head` ends there, too
 
 held-head : (s : List ℕ) (levels p : ℕ) {put : Heads → Heads} {q : ℕ} → Head-there s levels p put q → held-past s levels 0x4648 p ≡ ok q
 unfolding held-past below-past exprs-past expr-past over past mark-of find-mark marks choose code size-of numbers-of widths width fields children numbers-at is-set
 held-head s levels p {put} {q} t =
-    bind-fine _ (expected-first s 0x4648 p (t .room) (t .code-there) ∙ sym (judged-right s FH p (t .fits) (t .judged)))
+    let fits = t .fits in
+    let room : p + 2 ≤ length s = omega arith in
+    bind-fine _ (expected-first s 0x4648 p room (t .stands .marked) ∙ sym (judged-right s FH p fits (t .stands .judged)))
     ∙ by (t .kind)
   where
     by : {put : Heads → Heads} → Head-kind s levels p put q → exprs-past s levels (bit (is-set (number-at s (p + 2)))) (p + 26) ≡ ok q
@@ -602,60 +424,24 @@ param-put s limits levels p kept h st (with-default z default read puts) ps =
     ∙ ap (λ (o : Outcome (ℕ × AnalysisStack)). o >>= λ b. analyze-params limits ps (b .0) h (b .1))
     (sym (default-alone limits p _ _ default kept h st) ∙ ap (λ (x : Params). analyze-params limits x kept h st) (sym (puts no-params)))
 
-pub params-none : (s : List ℕ) (limits : Limits) (levels p kept : ℕ) (h : Place) (st : AnalysisStack) → run-params s limits levels 0 p kept h st ≡ ok (kept, (st, p))
-unfolding run-params params-at many none-left analyze-params _>>=_
-params-none s limits levels p kept h st = refl
-
 pub params-first : (s : List ℕ) (levels n p : ℕ) → Accepted (params-at s levels (suc n) p) → Accepted (params-at s levels 1 p)
 unfolding params-at
 params-first s levels n p a = many-first (param-item s (expr-at s levels)) no-params n p a
 
-pub params-behind : (s : List ℕ) (levels n p : ℕ) {ps : Params} {q : ℕ} → Accepted (params-at s levels (suc n) p) → params-at s levels 1 p ≡ ok (ps, q) → Accepted (params-at s levels n q)
-unfolding params-at
-params-behind s levels n p a e = many-rest (param-item s (expr-at s levels)) no-params n p a e
-
-pub params-ran : (s : List ℕ) (limits : Limits) (levels n p kept : ℕ) (h : Place) (st : AnalysisStack) {k q : ℕ} {st′ : AnalysisStack}
-    → run-params s limits levels n p kept h st ≡ ok (k, (st′, q)) → (ps : Params) × (params-at s levels n p ≡ ok (ps, q))
-unfolding run-params
-params-ran s limits levels n p kept h st e =
-    let r = run-ran (λ (b : ℕ × AnalysisStack) (q : ℕ). (b .0, (b .1, q))) (params-at s levels n p) (λ ps. analyze-params limits ps kept h st) e in
-    (r .what, r .there ∙ ap (λ (c : ℕ × (AnalysisStack × ℕ)). ok (r .what, c .1 .1)) (r .same))
-
-pub params-rest : (s : List ℕ) (limits : Limits) (levels n p kept : ℕ) (h : Place) (st : AnalysisStack) {k q : ℕ} {st′ : AnalysisStack}
-    → Accepted (params-at s levels (suc n) p) → run-params s limits levels 1 p kept h st ≡ ok (k, (st′, q)) → Accepted (params-at s levels n q)
-params-rest s limits levels n p kept h st a e = params-behind s levels n p a (params-ran s limits levels 1 p kept h st e .1)
-
-pub params-step : (s : List ℕ) (limits : Limits) (levels n p kept : ℕ) (h : Place) (st : AnalysisStack) → Accepted (params-at s levels (suc n) p)
-    → run-params s limits levels (suc n) p kept h st ≡ (run-params s limits levels 1 p kept h st >>= λ r. run-params s limits levels n (r .1 .1) (r .0) h (r .1 .0))
-unfolding run-params params-at
-params-step s limits levels n p kept h st a =
-    let item = param-item s (expr-at s levels) in
-    let f = many-split item no-params n p (a .there) in
-    let t = param-there s levels p (f .here) in
-    run-step (λ (b : ℕ × AnalysisStack) (q : ℕ). (b .0, (b .1, q))) (λ q. many item (none-left no-params) n q) (λ ps. analyze-params limits ps kept h st)
-    (λ b ps. analyze-params limits ps (b .0) h (b .1)) (λ r. run-params s limits levels n (r .1 .1) (r .0) h (r .1 .0))
-    (a .there) (many-one item no-params p (f .here)) (f .later)
-    (ap (λ (ps : Params). analyze-params limits ps kept h st) (f .same) ∙ param-put s limits levels p kept h st (t .kind) (f .others))
-    (λ b. refl)
-
--- where the first succeeds the others follow, and where it is refused all are
-
-pub params-next : (s : List ℕ) (limits : Limits) (levels n p kept : ℕ) (h : Place) (st : AnalysisStack) {k q : ℕ} {st′ : AnalysisStack} → Accepted (params-at s levels (suc n) p)
-    → run-params s limits levels 1 p kept h st ≡ ok (k, (st′, q)) → run-params s limits levels (suc n) p kept h st ≡ run-params s limits levels n q k h st′
-params-next s limits levels n p kept h st a e = params-step s limits levels n p kept h st a ∙ bind-fine _ e
-
-pub params-stop : (s : List ℕ) (limits : Limits) (levels n p kept : ℕ) (h : Place) (st : AnalysisStack) {number place : ℕ} → Accepted (params-at s levels (suc n) p)
-    → run-params s limits levels 1 p kept h st ≡ refuse number place → run-params s limits levels (suc n) p kept h st ≡ refuse number place
-params-stop s limits levels n p kept h st a e = params-step s limits levels n p kept h st a ∙ bind-refused _ e
+pub params-by-one : (s : List ℕ) (limits : Limits) (levels : ℕ) (h : Place)
+    → SpecsByOne (params-at s levels) (λ n p b. run-params s limits levels n p (b .0) h (b .1))
+unfolding run-params params-at analyze-params
+params-by-one s limits levels h = one-by-one (param-item s (expr-at s levels)) no-params (λ ps b. analyze-params limits ps (b .0) h (b .1)) _ _ (λ b q. refl) (λ b. refl)
+    λ p put q e ps b. param-put s limits levels p (b .0) h (b .1) (param-there s levels p e .kind) ps
 
 -- one parameter
 
-record One-param (s : List ℕ) (levels p : ℕ) (ps : Params) (q : ℕ) : Type 0 where
-  put : Params → Params
-  there : Param-there s levels p put q
-  same : ps ≡ put no-params
+pub record One-param (s : List ℕ) (levels p : ℕ) (ps : Params) (q : ℕ) : Type 0 where
+  pub put : Params → Params
+  pub there : Param-there s levels p put q
+  pub same : ps ≡ put no-params
 
-one-param : (s : List ℕ) (levels p : ℕ) {ps : Params} {q : ℕ} → params-at s levels 1 p ≡ ok (ps, q) → One-param s levels p ps q
+pub one-param : (s : List ℕ) (levels p : ℕ) {ps : Params} {q : ℕ} → params-at s levels 1 p ≡ ok (ps, q) → One-param s levels p ps q
 unfolding params-at
 one-param s levels p e =
     let o = many-alone (param-item s (expr-at s levels)) no-params p e in
@@ -678,22 +464,7 @@ param-default s levels p a nz = by (one-param s levels p (a .there) .there .kind
     by (no-default z e puts) = absurd (nz z)
     by (with-default z default read puts) = accepted read
 
--- the place behind it
-
-pub param-behind-plain : (s : List ℕ) (levels p : ℕ) {ps : Params} {q : ℕ} → params-at s levels 1 p ≡ ok (ps, q) → number-at s (p + 10) ≡ 0 → q ≡ p + 14
-param-behind-plain s levels p {ps} {q} a z = by (one-param s levels p a .there .kind)
-  where
-    by : {put : Params → Params} → Param-kind s levels p put q → q ≡ p + 14
-    by (no-default z e puts) = e
-    by (with-default o default read puts) = absurd (omega arith)
-
-pub param-behind-default : (s : List ℕ) (levels p : ℕ) {ps : Params} {q : ℕ} → params-at s levels 1 p ≡ ok (ps, q) → (number-at s (p + 10) ≡ 0 → ⊥)
-    → (default : Expr) × (expr-at s levels any-expression (p + 14) ≡ ok (default, q))
-param-behind-default s levels p {ps} {q} a nz = by (one-param s levels p a .there .kind)
-  where
-    by : {put : Params → Params} → Param-kind s levels p put q → (default : Expr) × (expr-at s levels any-expression (p + 14) ≡ ok (default, q))
-    by (no-default z e puts) = absurd (nz z)
-    by (with-default o default read puts) = (default, read)
+-- the place after it
 
 pub param-run : (s : List ℕ) (limits : Limits) (levels p kept : ℕ) (h : Place) (st : AnalysisStack) → Accepted (params-at s levels 1 p)
     → run-params s limits levels 1 p kept h st ≡ param-steps limits s levels p kept h st
@@ -709,7 +480,7 @@ param-run s limits levels p kept h st a =
         ap (λ (ps : Params). analyze-params limits ps kept h st >>= λ b. ok (b .0, (b .1, q))) same
         ∙ ap (λ (o : Outcome (ℕ × AnalysisStack)). o >>= λ b. ok (b .0, (b .1, q))) (param-alone limits p _ _ kept h st)
         ∙ ap (λ (q : ℕ). param-spec limits p kept (number-at s (p + 2)) st >>= λ b. ok (b .0, (b .1, q))) e
-        ∙ sym (chosen-unset _ _ (unset-zero z))
+        ∙ sym (chosen-false _ _ (unset-of z))
 
     default-run : (q : ℕ) (ps : Params) (default : Expr) → ps ≡ param-or p (number-at s (p + 2)) (span-at s (p + 6)) default no-params → number-at s (p + 10) ≡ 1
         → expr-at s levels any-expression (p + 14) ≡ ok (default, q) → (analyze-params limits ps kept h st >>= λ b. ok (b .0, (b .1, q))) ≡ param-steps limits s levels p kept h st
@@ -718,8 +489,8 @@ param-run s limits levels p kept h st a =
         ap (λ (ps : Params). analyze-params limits ps kept h st >>= λ b. ok (b .0, (b .1, q))) same
         ∙ ap (λ (o : Outcome (ℕ × AnalysisStack)). o >>= λ b. ok (b .0, (b .1, q))) (default-alone limits p _ _ default kept h st)
         ∙ bind-four (open-frame limits p false (with-taint no-dependence st)) (analyze limits default unnamed h) (close-frame limits p) record-it (λ b. ok (b .0, (b .1, q)))
-        ∙ bind-same (open-frame limits p false (with-taint no-dependence st)) _ _ (λ opened. sym (run-expr-then s limits levels (p + 14) unnamed h opened _ read))
-        ∙ sym (chosen-set _ _ (set-one z))
+        ∙ bind-ext (open-frame limits p false (with-taint no-dependence st)) _ _ (λ opened. sym (run-expr-then s limits levels (p + 14) unnamed h opened _ read))
+        ∙ sym (chosen-true _ _ (set-one z))
 
     by : {put : Params → Params} {q : ℕ} → Param-kind s levels p put q
         → (analyze-params limits (put no-params) kept h st >>= λ b. ok (b .0, (b .1, q))) ≡ param-steps limits s levels p kept h st
@@ -757,13 +528,6 @@ pub define-params-none : (s : List ℕ) (limits : Limits) (levels p depth : ℕ)
 unfolding run-define-params params-at many none-left define-params _>>=_
 define-params-none s limits levels p depth st = refl
 
-pub define-params-ran : (s : List ℕ) (limits : Limits) (levels n p depth : ℕ) (st : AnalysisStack) {q : ℕ} {st′ : AnalysisStack}
-    → run-define-params s limits levels n p depth st ≡ ok (st′, q) → (b : Params) × (params-at s levels n p ≡ ok (b, q))
-unfolding run-define-params
-define-params-ran s limits levels n p depth st e =
-    let r = run-ran (λ (b : AnalysisStack) (q : ℕ). (b, q)) (params-at s levels n p) (λ b. define-params limits b depth st) e in
-    (r .what, r .there ∙ ap (λ (c : AnalysisStack × ℕ). ok (r .what, c .1)) (r .same))
-
 pub define-params-step : (s : List ℕ) (limits : Limits) (levels n p depth : ℕ) (st : AnalysisStack) {ps : Params} {q : ℕ}
     → Accepted (params-at s levels (suc n) p) → params-at s levels 1 p ≡ ok (ps, q)
     → run-define-params s limits levels (suc n) p depth st ≡ (define-local limits p (number-at s (p + 2)) (span-at s (p + 6)) depth st >>= λ st. run-define-params s limits levels n q depth st)
@@ -777,8 +541,8 @@ define-params-step s limits levels n p depth st {ps} {q} a e =
     let local = define-local limits p (number-at s (p + 2)) (span-at s (p + 6)) depth st in
     bind-fine _ (a .there)
     ∙ ap (λ (o : Outcome AnalysisStack). o >>= λ st. ok (st, a .what .1)) (ap (λ (ps : Params). define-params limits ps depth st) (f .same) ∙ define-put s limits levels p depth st (t .kind) (f .others))
-    ∙ bind-twice local (define-params limits (f .others) depth) (λ st. ok (st, a .what .1))
-    ∙ bind-same local _ _ (λ defined. sym (bind-fine _ later))
+    ∙ bind-assoc local (define-params limits (f .others) depth) (λ st. ok (st, a .what .1))
+    ∙ bind-ext local _ _ (λ defined. sym (bind-fine _ later))
 
 -- Values
 
@@ -798,19 +562,19 @@ head-names s levels p (is-fixed z e puts) hs =
     let span = span-at s (p + 10) in
     ap head-namings (puts hs)
     ∙ ap (λ (c : Naming). choose (is-set (number-at s (p + 22))) (λ _. c) (λ _. unnamed) ∷ head-namings hs)
-    (sym (chosen-unset (λ _. as-computed-method span) (λ _. as-method (number-at s (p + 6)) span) (unset-zero z)))
+    (sym (chosen-false (λ _. as-computed-method span) (λ _. as-method (number-at s (p + 6)) span) (unset-of z)))
 head-names s levels p (is-computed z name read puts) hs =
     let span = span-at s (p + 10) in
     ap head-namings (puts hs)
     ∙ ap (λ (c : Naming). choose (is-set (number-at s (p + 22))) (λ _. c) (λ _. unnamed) ∷ head-namings hs)
-    (sym (chosen-set (λ _. as-computed-method span) (λ _. as-method (number-at s (p + 6)) span) (set-one z)))
+    (sym (chosen-true (λ _. as-computed-method span) (λ _. as-method (number-at s (p + 6)) span) (set-one z)))
 
 -- one value, and those that follow it
 groups-one : (s : List ℕ) (sub : Allowed → ℕ → Outcome (Expr × ℕ)) (a : Allowed) (gs : Groups) (p : ℕ)
     → groups-at s sub ((1, level a) ∷ gs) p ≡ (sub a p >>= λ x. groups-at s sub gs (x .1) >>= λ y. ok ((x .0 then y .0), y .1))
 unfolding groups-at many expr-item child-at _>>=_
 groups-one s sub a gs p =
-    bind-twice (sub a p) (λ x. ok ((λ (es : Exprs). x .0 then es), x .1)) (λ i. groups-at s sub gs (i .1) >>= λ y. ok (i .0 (y .0), y .1))
+    bind-assoc (sub a p) (λ x. ok ((λ (es : Exprs). x .0 then es), x .1)) (λ i. groups-at s sub gs (i .1) >>= λ y. ok (i .0 (y .0), y .1))
 
 groups-none : (s : List ℕ) (sub : Allowed → ℕ → Outcome (Expr × ℕ)) (p : ℕ) → groups-at s sub (value-groups no-heads) p ≡ ok (no-exprs, p)
 unfolding groups-at none-left value-groups
@@ -912,10 +676,6 @@ values-none s limits levels heads p h st = refl
 pub values-first : (s : List ℕ) (levels n heads p : ℕ) → Accepted (values-at s levels (suc n) heads p) → Accepted (values-at s levels 1 heads p)
 values-first s levels n heads p a = accepted (values-split s levels n heads p (a .there) .first)
 
-pub values-heads : (s : List ℕ) (levels n heads p : ℕ) → Accepted (values-at s levels n heads p) → Accepted (heads-at s levels n heads)
-unfolding values-at
-values-heads s levels n heads p a = accepted (bind-got (heads-at s levels n heads) _ (a .there) .first)
-
 pub values-head : (s : List ℕ) (levels n heads p : ℕ) → Accepted (values-at s levels (suc n) heads p) → Accepted (heads-at s levels 1 heads)
 values-head s levels n heads p a = accepted (values-split s levels n heads p (a .there) .first-head)
 
@@ -973,13 +733,6 @@ value-there s levels heads p a = accepted (values-split s levels 0 heads p (a .t
 pub value-head-fits : (s : List ℕ) (levels heads p : ℕ) → Accepted (values-at s levels 1 heads p) → heads + 26 ≤ length s
 value-head-fits s levels heads p a = values-split s levels 0 heads p (a .there) .head .fits
 
--- it ends where its expression ends
-pub value-behind : (s : List ℕ) (levels heads p : ℕ) {x : Heads × Exprs} {q : ℕ} → values-at s levels 1 heads p ≡ ok (x, q) → (e : Expr) × (expr-at s levels any-expression p ≡ ok (e, q))
-value-behind s levels heads p {x} {q} a =
-    let f = values-split s levels 0 heads p a in
-    let k = same-ok (sym (f .first) ∙ a) in
-    (f .value, f .read ∙ ap (λ (x : (Heads × Exprs) × ℕ). ok (f .value, x .1)) k)
-
 pub value-run : (s : List ℕ) (limits : Limits) (levels heads p : ℕ) (h : Place) (st : AnalysisStack) → Accepted (values-at s levels 1 heads p)
     → run-values s limits levels 1 heads p h st ≡ value-steps limits s levels heads p h st
 unfolding run-values value-steps closed-value and-place value-spec
@@ -992,12 +745,7 @@ value-run s limits levels heads p h st a =
     ∙ ap (λ (o : Outcome AnalysisStack). o >>= λ st. ok (st, q)) (value-alone limits (f .value) naming (head-namings no-heads) h st)
     ∙ ap (λ (place : ℕ). value-spec limits place naming (f .value) h st >>= λ st. ok (st, q)) (expr-place s levels any-expression p (f .read))
     ∙ bind-four (open-frame limits p false st) (analyze limits (f .value) naming h) (close-frame limits p) (emit limits p FV []) (λ st. ok (st, q))
-    ∙ bind-same (open-frame limits p false st) _ _ (λ opened. sym (run-expr-then s limits levels p naming h opened _ (f .read)))
-
--- the head's naming, alone
-pub head-naming-alone : (s : List ℕ) (levels p : ℕ) {hs : Heads} {q : ℕ} → heads-at s levels 1 p ≡ ok (hs, q) → head-namings hs ≡ head-naming-at s p ∷ []
-unfolding head-namings
-head-naming-alone s levels p e = let o = one-head s levels p e in ap head-namings (o .same) ∙ head-names s levels p (o .there .kind) no-heads
+    ∙ bind-ext (open-frame limits p false st) _ _ (λ opened. sym (run-expr-then s limits levels p naming h opened _ (f .read)))
 
 -- how far they go
 
@@ -1012,12 +760,6 @@ values-within s levels (suc n) heads p {x} {q} e =
 
 pub values-end : (s : List ℕ) (levels n heads p : ℕ) {x : Heads × Exprs} {q : ℕ} → values-at s levels n heads p ≡ ok (x, q) → p ≤ length s → (p ≤ q) × (q ≤ length s)
 values-end s levels n heads p e le = let w = values-within s levels n heads p e in (omega (arith, w .0), w .1 le)
-
-pub values-room : (s : List ℕ) (levels n heads p : ℕ) → Accepted (values-at s levels n heads p) → p ≤ length s → p + 2 * n ≤ length s
-values-room s levels n heads p a le = let w = values-within s levels n heads p (a .there) in omega (arith, w .0, w .1 le)
-
-pub values-short : (s : List ℕ) (levels n heads p : ℕ) → Accepted (values-at s levels n heads p) → n ≤ length s
-values-short s levels n heads p a = heads-short s levels n heads (values-heads s levels n heads p a)
 
 -- Assertions
 
@@ -1039,9 +781,9 @@ assertions-some s limits levels n p h st a =
     bind-fine _ read
     ∙ ap (λ (place : ℕ). (open-frame limits place false st >>= λ st. first st >>= λ st. others st >>= λ st. close-frame limits place st) >>= λ st. ok (st, q)) (item-there s levels p (t .read) .place)
     ∙ bind-four (open-frame limits p false st) first others (close-frame limits p) (λ st. ok (st, q))
-    ∙ bind-same (open-frame limits p false st) _ _ (λ opened. sym (ap (λ (o : Outcome (AnalysisStack × ℕ)). o >>= λ r. close-frame limits p (r .0) >>= λ st. ok (st, r .1)) (bind-fine _ read)
-    ∙ bind-twice (first opened >>= others) (λ st. ok (st, q)) (λ r. close-frame limits p (r .0) >>= λ st. ok (st, r .1))
-    ∙ bind-twice (first opened) others (λ st. close-frame limits p st >>= λ st. ok (st, q))))
+    ∙ bind-ext (open-frame limits p false st) _ _ (λ opened. sym (ap (λ (o : Outcome (AnalysisStack × ℕ)). o >>= λ r. close-frame limits p (r .0) >>= λ st. ok (st, r .1)) (bind-fine _ read)
+    ∙ bind-assoc (first opened >>= others) (λ st. ok (st, q)) (λ r. close-frame limits p (r .0) >>= λ st. ok (st, r .1))
+    ∙ bind-assoc (first opened) others (λ st. close-frame limits p st >>= λ st. ok (st, q))))
 
 pub assertions-run : (s : List ℕ) (limits : Limits) (levels n p : ℕ) (h : Place) (st : AnalysisStack) → 0 < n → Accepted (items-at s levels n p)
     → run-assertions s limits levels n p h st ≡ assertions-steps limits s levels n p h st

@@ -52,7 +52,7 @@ module _ (s : List ℕ) where
     (vs, q) ← groups-at s (expr-at s levels) (value-groups hs) p
     ok ((hs, vs), q)
 
-  -- Reading and analysing: the state, and the place behind what was read
+  -- Reading and analysing: the state, and the place after what was read
 
   module _ (limits : Limits) where
     unfoldable pub run-expr : (levels p : ℕ) → Naming → Place → AnalysisStack → Outcome (AnalysisStack × ℕ)

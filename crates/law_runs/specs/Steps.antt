@@ -56,7 +56,7 @@ object-record outermost u kept assertions values is-static =
 
 -- Steps
 
--- an answer and the place behind
+-- an answer and the place after
 unfoldable pub and-place : ℕ → Outcome AnalysisStack → Outcome (AnalysisStack × ℕ)
 and-place q o = do
   st ← o
@@ -127,7 +127,7 @@ module _ (limits : Limits) where
     unfoldable pub constants-steps : (n p : ℕ) → AnalysisStack → Outcome (AnalysisStack × ℕ)
     constants-steps n p st = and-place (p + 6 + 6 * n) (emit limits p AC (n ∷ values-from s n (p + 6)) st)
 
-    -- a field's head behind its name, if that is computed
+    -- a field's head after its name, if that is computed
     unfoldable pub head-written : (p q : ℕ) → AnalysisStack → Outcome (AnalysisStack × ℕ)
     head-written p q st =
         let kind = number-at s (p + 2) in

@@ -3,7 +3,7 @@ use Prim.Native.Nat.{ℕ, _+_, _≤_}
 use native.Mathlib.Omega.{arith}
 use mathlib.Core.List.{List, [], _∷_, _++_, map, tail, append-assoc, append-nil}
 use mathlib.Core.Path.{_≡_, refl, sym, ap, _∙_}
-use lib.ListN.{length, getD, take, length-map}
+use lib.ListN.{length, take}
 use lib.Seq.{take-append-seam}
 use Rattle.rules.specs.Outcome.{Outcome}
 use Rattle.rules.specs.Frames.{ClosureFrame, top, beneath, no-frame, new-frame}
@@ -71,26 +71,6 @@ first-same st st′ e = first-head st′ ∙ ap first-of e ∙ sym (first-head s
 
 -- the same frames but for captures are as many, and begin at the same locals
 
-pub count-same : (st st′ : AnalysisStack) → frame-heads st′ ≡ frame-heads st → length (st′ .frames) ≡ length (st .frames)
-unfolding frame-heads
-count-same st st′ e = sym (length-map (st′ .frames) frame-head) ∙ ap length e ∙ length-map (st .frames) frame-head
-
-pub firsts-same : (st st′ : AnalysisStack) → frame-heads st′ ≡ frame-heads st → first-locals st′ ≡ first-locals st
-unfolding frame-heads first-locals frame-head
-firsts-same st st′ e = of (st′ .frames) ∙ ap (map (λ (h : FrameHead). h .first-local)) e ∙ sym (of (st .frames))
-  where
-    of : (fs : List ClosureFrame) → map (λ (f : ClosureFrame). f .first-local) fs ≡ map (λ (h : FrameHead). h .first-local) (map frame-head fs)
-    of [] = refl
-    of (f ∷ fs) = ap (λ (ns : List ℕ). f .first-local ∷ ns) (of fs)
-
-pub top-same : (st st′ : AnalysisStack) → frame-heads st′ ≡ frame-heads st → frame-head (top (st′ .frames)) ≡ frame-head (top (st .frames))
-unfolding frame-heads top frame-head
-top-same st st′ e = of (st′ .frames) ∙ ap (λ (hs : List FrameHead). getD hs 0 (frame-head no-frame)) e ∙ sym (of (st .frames))
-  where
-    of : (fs : List ClosureFrame) → frame-head (top fs) ≡ getD (map frame-head fs) 0 (frame-head no-frame)
-    of [] = refl
-    of (f ∷ fs) = refl
-
 -- Expressions
 
 pub steady-none : (st : AnalysisStack) → Steady 0 st st
@@ -135,7 +115,7 @@ opened-then {st′ = st′} {st″ = st″} h k = record {
   longer = omega (arith, h .longer, k .longer);
 }
 
--- A defining frame above a state: its locals and references stand behind those that were there
+-- A defining frame above a state: its locals and references stand after those that were there
 
 pub record Within (most : ℕ) (st st′ : AnalysisStack) : Type 0 where
   pub more-locals : length (st .locals) ≤ length (st′ .locals)

@@ -5,15 +5,15 @@ use mathlib.Core.List.{List}
 use mathlib.Core.Path.{_≡_}
 use Rattle.rules.specs.State.{Limits, AnalysisStack}
 use Rattle.rules.specs.FirstWalk.{any-expression}
-use Rattle.rules.specs.Walk.{Place, Naming, unnamed, head-namings}
-use Rattle.law_runs.specs.Run.{run-expr, run-item, run-items, run-assertions, run-values, run-heads, run-binds, run-params, run-define-binds, run-define-params}
+use Rattle.rules.specs.Walk.{Place, Naming, head-namings}
+use Rattle.law_runs.specs.Run.{run-expr, run-items, run-assertions, run-values, run-heads, run-binds, run-params, run-define-binds, run-define-params}
 use Rattle.rules.proofs.After.{After, fine, after-bind}
 use Rattle.law_steady.specs.Steady.{Steady, Steady-specs, Defined}
 use Rattle.law_steady.specs.Passed.{Passed, Passed-specs}
 use Rattle.law_steady.proofs.Keeping.{steady-sound}
 use Rattle.law_steady.proofs.Steps.{defined-binds, defined-params}
 use Rattle.law_steady.proofs.Steady.{steady, steady-all, steady-assertions, steady-values, steady-binds, steady-params, steady-heads}
-use Rattle.law_steady.proofs.Weighing.{expr-weighs, item-at-weighs, items-at-weigh, binds-at-weigh, params-at-weigh, heads-at-weigh, values-at-weigh}
+use Rattle.law_steady.proofs.Weighing.{expr-weighs, items-at-weigh, binds-at-weigh, params-at-weigh, heads-at-weigh, values-at-weigh}
 
 -- rounds that bytes pay for
 
@@ -46,11 +46,6 @@ module _ (s : List ℕ) (L : Limits) where
   unfolding run-expr
   passed-expr levels p naming h st = after-bind _ (expr-weighs s levels any-expression p) λ x le.
       after-bind _ (steady L (x .0) naming h st) λ st₁ k. fine (passed p (x .1) le k)
-
-  pub passed-item : (levels p : ℕ) (h : Place) (st : AnalysisStack) → After (λ (r : AnalysisStack × ℕ). Passed p (r .1) st (r .0)) (run-item s L levels p h st)
-  unfolding run-item
-  passed-item levels p h st = after-bind _ (item-at-weighs s levels p) λ x le.
-      after-bind _ (steady L (x .0) unnamed h st) λ st₁ k. fine (passed p (x .1) le k)
 
   pub passed-items : (levels n p : ℕ) (h : Place) (st : AnalysisStack) → After (λ (r : AnalysisStack × ℕ). Passed p (r .1) st (r .0)) (run-items s L levels n p h st)
   unfolding run-items

@@ -5,18 +5,14 @@ use mathlib.Core.List.{List, [], _∷_, tail}
 use lib.ListN.{length}
 use Rattle.rules.specs.Numbers.{TV, AC, AR, LO, OB, BV, PA, FH, FV}
 use Rattle.rules.specs.Depths.{no-dependence}
-use Rattle.rules.specs.Tree.{Expr, Exprs, Binds, Params, Heads, count-binds, count-params, place-of}
-use Rattle.rules.specs.Tree.{identity, constant, variable, constants, array, plain, import, local, function, object}
-use Rattle.rules.specs.Tree.{no-exprs, _then_, no-binds, bind, no-params, param, param-or, no-heads, fixed, computed}
+use Rattle.rules.specs.Tree.{Expr, Exprs, Binds, Params, Heads, count-binds, count-params, place-of, identity, constant, variable, constants, array, plain, import, local, function, object, no-exprs, _then_, no-binds, bind, no-params, param, param-or, no-heads, fixed, computed}
 use Rattle.rules.specs.Settling.{propagate-analysis}
 use Rattle.rules.specs.State.{Limits, AnalysisStack, with-taint}
-use Rattle.rules.specs.Walk.{Place, Naming, unnamed, bind-naming, first-naming, head-namings, deeper, in-object, is-outermost, entered-use}
-use Rattle.rules.specs.Walk.{analyze, analyze-all, analyze-assertions, analyze-values, analyze-binds, analyze-params, analyze-heads}
+use Rattle.rules.specs.Walk.{Place, Naming, unnamed, bind-naming, first-naming, head-namings, deeper, in-object, is-outermost, entered-use, analyze, analyze-all, analyze-assertions, analyze-values, analyze-binds, analyze-params, analyze-heads}
 use Rattle.rules.proofs.After.{After, fine, after-weaken, after-bind, after-choose}
 use Rattle.law_steady.specs.Steady.{Steady, Steady-specs, weight, weight-all, weight-binds, weight-params, weight-heads}
 use Rattle.law_steady.proofs.Keeping.{steady-none, steady-then, steady-more, after-steady, opened-then, within-then, within-specs, within-defined, within-from, specs-then, specs-steady}
-use Rattle.law_steady.proofs.Steps.{steady-taint, steady-object-use, analysis-keeps, steady-settle, steady-emit, using-opens, defining-opens, frame-closes, steady-identity, steady-name, steady-import}
-use Rattle.law_steady.proofs.Steps.{defined-this, defined-binds, defined-params, spec-recorded, frame-finishes, function-finishes}
+use Rattle.law_steady.proofs.Steps.{steady-taint, steady-object-use, analysis-keeps, steady-settle, steady-emit, using-opens, defining-opens, frame-closes, steady-identity, steady-name, steady-import, defined-this, defined-binds, defined-params, spec-recorded, frame-finishes, function-finishes}
 
 module _ (L : Limits) where
   mutual

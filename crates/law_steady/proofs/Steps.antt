@@ -15,16 +15,14 @@ use Rattle.rules.specs.Frames.{ClosureFrame, Resolved, new-frame, top, beneath,
 use Rattle.rules.specs.Settling.{Reference, Round, Loop, propagate-analysis, propagate-use, one-round, Settled, settle, settled}
 use Rattle.rules.specs.State.{Limits, ObjectUse, AnalysisStack, with-locals, with-frames, with-references, with-object-use, with-taint, with-sink, with-out, with-rounds, written, taken-back}
 use Rattle.rules.specs.Writing.{Level, emit, report, bad-place, open-frame, close-frame}
-use Rattle.rules.specs.Scoping.{first-in-frame, frame-locals, is-at, is-kept, touch-local, touch-object, set-analysis, taint-outer, drop-spec, settle-frame}
-use Rattle.rules.specs.Scoping.{push-local, push-in-frame, define-local, define-this, emit-slot, keep-references, record-spec-init, judge, judge-all, finish-frame}
+use Rattle.rules.specs.Scoping.{first-in-frame, frame-locals, is-at, is-kept, touch-local, touch-object, set-analysis, taint-outer, drop-spec, settle-frame, push-local, push-in-frame, define-local, define-this, emit-slot, keep-references, record-spec-init, judge, judge-all, finish-frame}
 use Rattle.rules.specs.Walk.{Place, Naming, use-identity, use-local, use-import, finish-function, define-binds, define-params}
 use Rattle.rules.specs.Tree.{Binds, Params, no-binds, bind, no-params, param, param-or}
 use Rattle.settling.specs.Meaning.{Below}
 use Rattle.rules.proofs.After.{After, fine, after-weaken, after-bind, after-need, after-choose, after-given, chosen}
 use Rattle.rules.proofs.Rounds.{rounds-at-most}
 use Rattle.law_steady.specs.Steady.{frame-head, frame-heads, first-locals, heads-beneath, Sound, Steady, Steady-specs, Defined}
-use Rattle.law_steady.proofs.Keeping.{begins-same, begins-back, below-both, sound-same, steady-none, steady-then, steady-more, after-steady}
-use Rattle.law_steady.proofs.Keeping.{Opened, opened-then, Within, within-then, specs-then, specs-steady, specs-kept, defined-none, defined-then}
+use Rattle.law_steady.proofs.Keeping.{begins-same, begins-back, below-both, sound-same, steady-none, steady-then, steady-more, after-steady, Opened, opened-then, Within, within-then, specs-then, specs-steady, specs-kept, defined-none, defined-then}
 
 -- The same state but for one part
 
@@ -373,7 +371,7 @@ module _ (L : Limits) where
       after-bind _ (steady-judge-all p _ _) λ st₁ k.
       after-weaken (frame-closes p st _ (taken-away st st₁ (within-then settled k))) λ _ done. steady-more done (omega arith)
 
-  -- "is taken back, `FN` unwritten": not behind where the function began
+  -- "is taken back, `FN` unwritten": not after where the function began
   steady-back : {most : ℕ} (st st′ : AnalysisStack) → Steady most st st′ → Steady most st (taken-back (written st) st′)
   unfolding taken-back with-out with-sink written frame-heads
   steady-back st st′ h = record {

@@ -3,15 +3,13 @@ use Prim.Native.Nat.{ℕ, zero, suc, _+_, _*_, _≤_}
 use native.Mathlib.Omega.{arith}
 use mathlib.Core.List.{List, [], _∷_}
 use mathlib.Core.Path.{_≡_, refl, ap}
-use Rattle.rules.specs.Outcome.{Outcome, ok, refuse}
+use Rattle.rules.specs.Outcome.{Outcome}
 use Rattle.rules.specs.Numbers.{Mark}
 use Rattle.rules.specs.Records.{size-of}
 use Rattle.rules.specs.Tree.{Expr, Exprs, Binds, Params, Heads, no-exprs, no-binds, no-params, no-heads, count-binds, count-params, identity, constant, variable, constants, import}
-use Rattle.rules.specs.FirstWalk.{Allowed, any-expression, Child, level, holder, Groups, expressions, assertion, rows, only, bind-rows, value-groups, Read, nth, many, none-left, record-at}
-use Rattle.rules.specs.FirstWalk.{Form, an-identity, a-constant, a-variable, an-array, an-import, a-local, a-function, an-object, parts}
-use Rattle.rules.specs.FirstWalk.{expr-item, holder-at, child-at, groups-at, bind-item, param-item, head-item, below, expr-at}
+use Rattle.rules.specs.FirstWalk.{Allowed, any-expression, Child, level, holder, Groups, expressions, assertion, rows, only, bind-rows, value-groups, Read, nth, many, none-left, record-at, Form, an-identity, a-constant, a-variable, an-array, an-import, a-local, a-function, an-object, parts, expr-item, holder-at, child-at, groups-at, bind-item, param-item, head-item, below, expr-at}
 use Rattle.law_runs.specs.Run.{item-at, items-at, binds-at, params-at, heads-at, values-at}
-use Rattle.rules.proofs.After.{After, fine, refused, after-bind, after-need, after-choose, after-given, Puts, after-many}
+use Rattle.rules.proofs.After.{After, fine, refused, after-bind, after-need, after-choose, after-given, Puts, after-many, after-any}
 use Rattle.law_steady.specs.Steady.{weight, weight-all, weight-binds, weight-params, weight-heads}
 
 -- an expression, or expressions, from p to q
@@ -36,11 +34,7 @@ module _ (s : List ℕ) where
   record-goes : {A : Type 0} (table : List (Mark × A)) (p : ℕ) → After (λ (r : Read A). p + 2 ≤ r .next) (record-at s table p)
   unfolding record-at size-of
   record-goes {A = A} table p =
-      after-need _ 1 p _ λ _. after-bind {P = λ (_ : Mark × A). Unit {0}} _ (any _) λ m _. after-need _ 1 p _ λ _. after-need _ 3 p _ λ _. fine (omega arith)
-    where
-      any : (o : Outcome (Mark × A)) → After (λ (_ : Mark × A). Unit {0}) o
-      any (ok m) = fine tt
-      any (refuse number place) = refused
+      after-need _ 1 p _ λ _. after-bind {P = λ (_ : Mark × A). Unit {0}} _ (after-any _) λ m _. after-need _ 1 p _ λ _. after-need _ 3 p _ λ _. fine (omega arith)
 
   module _ (sub : Allowed → ℕ → Outcome (Expr × ℕ)) (sub-weighs : (a : Allowed) (p : ℕ) → After (Weighs p) (sub a p)) where
     item-weighs : (read : ℕ → Outcome (Expr × ℕ)) → ((p : ℕ) → After (Weighs p) (read p))

@@ -79,7 +79,7 @@ pub record Steady (most : ℕ) (st st′ : AnalysisStack) : Type 0 where
   pub few-rounds : st′ .sink .rounds ≤ st .sink .rounds + most
   pub longer : length (st .sink .out) ≤ length (st′ .sink .out)
 
--- these references are those, and more behind them
+-- these references are those, and more after them
 pub record Begins (refs refs′ : List Reference) : Type 0 where
   pub more : List Reference
   pub is : refs′ ≡ refs ++ more

@@ -9,7 +9,7 @@ use native.Mathlib.Decide.{decLt}
 use lib.ListN.{length}
 use Rattle.rules.specs.Frames as rules
 use Rattle.rules.specs.Writing.{slot-number}
-use Rattle.table_frames.specs.Meaning.{number}
+use Rattle.table_rows.specs.Entries.{number}
 use Rattle.table_captures.specs.Meaning.{Logged, logged, logged-at, log-at, log-of, captures-of, SmallSource}
 use Rattle.table_captures.specs.Answers.{PutCapture}
 use Rattle.table_captures.specs.declared.Capture.{Capture}

@@ -4,16 +4,22 @@ use mathlib.Core.Logic.{_⊎_, inl, inr}
 use mathlib.Core.List.{List, _∷_}
 use Prim.Native.Nat.{ℕ, zero, suc, _-_, _≤_, _<_}
 use native.Mathlib.Omega.{arith}
+use lib.ListN.{length}
 use native.Mathlib.Decide.{decLt}
 use borrow.Author.Tests.{eq-eqb, ne-eqb}
 use Rattle.rules.specs.Outcome.{choose}
 use Rattle.rules.specs.Frames as rules
-use Rattle.table_frames.specs.Meaning.{number}
+use Rattle.table_rows.specs.Entries.{number}
 use Rattle.table_frames.specs.Answers.{FrameAt}
 use Rattle.table_frames.specs.declared.Frame.{Frame}
 use Rattle.table_captures.specs.Meaning.{captures-of}
 use Rattle.resolver.specs.Meaning.{frame-of, frames-of}
 use Rattle.resolver.specs.Answers.{Home}
+
+pub length-frames : (n : ℕ) (frames : List ℕ) (count : ℕ) (captures : List ℕ) → length (frames-of n frames count captures) ≡ n
+unfolding frames-of
+length-frames zero frames count captures = refl
+length-frames (suc n) frames count captures = ap suc (length-frames n frames count captures)
 
 module _ (frames : List ℕ) (count : ℕ) (captures : List ℕ) where
   pub frames-top : (n : ℕ) → 0 < n → frames-of n frames count captures ≡ frame-of frames count captures (n - 1) ∷ frames-of (n - 1) frames count captures

@@ -6,7 +6,7 @@ use Prim.Native.Nat.{ℕ, suc, _+_, _*_, _≤_, _<_}
 use native.Mathlib.Omega.{arith}
 use lib.ListN.{length}
 use Rattle.rules.specs.Frames as rules
-use Rattle.table_frames.specs.Meaning.{number}
+use Rattle.table_rows.specs.Entries.{number}
 use Rattle.table_frames.specs.Answers.{FrameAt}
 use Rattle.table_frames.specs.declared.Frame.{Frame}
 use Rattle.table_captures.specs.Meaning.{captures-of}

@@ -13,7 +13,7 @@ use borrow.Author.Tests.{lt-ltb, le-ltb, le-leb, lt-leb}
 use Rattle.rules.specs.Outcome.{ok, refuse, _>>=_, need, choose, given}
 use Rattle.rules.specs.Frames as rules
 use Rattle.rules.specs.Writing.{slot-number}
-use Rattle.table_frames.specs.Meaning.{number}
+use Rattle.table_rows.specs.Entries.{number}
 use Rattle.table_frames.specs.declared.Frame.{Frame}
 use Rattle.table_captures.specs.Meaning.{slot, Logged, taking, logged-at, captures-of}
 use Rattle.table_captures.specs.Answers.{PutCapture}

@@ -57,7 +57,7 @@ pub record Resolves (r : Resolved) (n : ℕ) (frames : List ℕ) (count : ℕ) (
       → seen r place n frames after ≡ rules.resolve-at most place above id (frames-of n frames count before)
   pub left : Left r n frames count before after
 
--- the answer of the frame beneath put behind the log as a capture, or refused: 12 before 8
+-- the answer of the frame beneath put after the log as a capture, or refused: 12 before 8
 abbrev pub CapturedFrom : (source : LSlot) (count : ℕ) → Resolved → (before after : List ℕ) → (most owner k id : ℕ) → Type 0
 CapturedFrom source count (To s count′) before after most owner k id =
     (slot s ≡ rules.capture-slot k) × (k ≤ 65535) × (count < most) × (count′ ≡ suc count) × (slot-number (slot source) ≤ 65535)

@@ -3,7 +3,7 @@ use mathlib.Core.List.{List}
 use mathlib.Core.Path.{_≡_}
 use Prim.Native.Nat.{ℕ, _*_, _≤_, _<_}
 use lib.ListN.{length}
-use Rattle.table_frames.specs.Meaning.{number}
+use Rattle.table_rows.specs.Entries.{number}
 use Rattle.table_captures.specs.Meaning.{logged-at, captures-of, SmallSource}
 
 -- of the first n frames, whatever stands above them: the tables hold them, a frame's captures stand from its `captures_from` on,

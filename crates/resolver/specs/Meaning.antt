@@ -3,7 +3,7 @@ use mathlib.Core.List.{List, [], _∷_}
 use Prim.Native.Nat.{ℕ, zero, suc}
 use lib.Dec.{eqb}
 use Rattle.rules.specs.Frames as rules
-use Rattle.table_frames.specs.Meaning.{number}
+use Rattle.table_rows.specs.Entries.{number}
 use Rattle.table_captures.specs.Meaning.{captures-of}
 
 -- an entry of the frames: whether it is defining, its first local, how many locals, and the log's length when it was opened

@@ -1,10 +1,10 @@
 // The open frames and what they have captured: a frame opened, a local resolved to a slot, a frame closed.
 ghost use Prim.Native.Nat.{ℕ, _+_, _*_, _<_, _≤_};
 ghost use lib.ListN.{length};
-ghost use Rattle.table_frames.specs.Meaning.{number};
+ghost use Rattle.table_rows.specs.Entries.{number};
 ghost use Rattle.resolver.specs.Kept.{KeptBelow, Kept};
 ghost use Rattle.resolver.specs.Answers.{Home, HeldBy, Opened, Captured, Resolves, ResolvesToSlot, Closed};
-use find_capture::Found;
+use find_capture::FoundCapture;
 use find_capture::capture_of;
 use table_captures::Capture;
 use table_captures::CaptureSlot;
@@ -31,7 +31,7 @@ pub enum Resolved {
 }
 
 // A new frame on the n that are open.
-pub fn open_frame(
+pub fn push_frame(
     frames: &mut [u32],
     n: u32,
     is_defining: bool,
@@ -150,8 +150,8 @@ fn resolve_at(
     let f = frame_at(frames, idx);
     let found = capture_of(captures, f.captures_from, count, idx, id);
     match found {
-        Found::At(slot) => Resolved::To(LSlot::Capture(slot), count),
-        Found::Nothing(k) => {
+        FoundCapture::At(slot) => Resolved::To(LSlot::Capture(slot), count),
+        FoundCapture::Nothing(k) => {
             let parent = resolve_at(frames, captures, idx, count, most, id);
             add_capture(captures, most, idx, k, id, parent)
         }
@@ -178,7 +178,7 @@ pub fn resolve_to_slot(
 }
 
 // The top frame is closed: its captures leave the log, and the others close up. Answers the log's length.
-pub fn close_frame(frames: &[u32], captures: &mut [u32], n: u32, count: u32) -> u32
+pub fn pop_frame(frames: &[u32], captures: &mut [u32], n: u32, count: u32) -> u32
     requires { ⌜ (Kept n (now frames) count (now captures)) × (0 < n) ⌝ }
     ensures { λ r. ⌜ Closed n (now (frames .entry)) count (now (captures .entry)) r (now (captures .exit)) ⌝ }
 {

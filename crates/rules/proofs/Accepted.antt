@@ -10,12 +10,9 @@ use borrow.Author.Tests.{leb-true, eqb-true}
 use Rattle.rules.specs.Outcome.{Outcome, ok}
 use Rattle.rules.specs.Numbers.{Mark, JT, ID, TV, VA, AR, LO, IM, FN, OB, PA, FH, numbers-at, bit, is-set}
 use Rattle.rules.specs.Records.{span-numbers, span-in, numbers-of, size-of, fields, width, widths, in-range, span-width}
-use Rattle.rules.specs.Tree.{Expr, Exprs, Binds, Params, Heads, Tree, no-exprs, _then_, no-binds, no-params, no-heads, count-exprs, count-binds, count-params, count-heads}
-use Rattle.rules.specs.Tree.{identity, constant, variable, import}
+use Rattle.rules.specs.Tree.{Expr, Exprs, Binds, Params, Heads, Tree, no-exprs, _then_, no-binds, no-params, no-heads, count-exprs, count-binds, count-params, count-heads, identity, constant, variable, import}
 use Rattle.rules.specs.Encode.{expr-bytes, exprs-bytes, binds-bytes, params-bytes, heads-bytes, head-numbers, bind-mark, tree-bytes}
-use Rattle.rules.specs.FirstWalk.{Allowed, any-expression, function-only, object-only, Child, level, holder, Groups, expressions, assertion, rows, only, bind-rows, value-groups, nth, nth-span, head-of, many, none-left}
-use Rattle.rules.specs.FirstWalk.{Form, an-identity, a-constant, a-variable, an-array, an-import, a-local, a-function, an-object, parts}
-use Rattle.rules.specs.FirstWalk.{expr-item, holder-at, child-at, groups-at, bind-item, param-item, head-item, below, expr-at, tree-at}
+use Rattle.rules.specs.FirstWalk.{Allowed, any-expression, function-only, object-only, Child, level, holder, Groups, expressions, assertion, rows, only, bind-rows, value-groups, nth, nth-span, head-of, many, none-left, Form, an-identity, a-constant, a-variable, an-array, an-import, a-local, a-function, an-object, parts, expr-item, holder-at, child-at, groups-at, bind-item, param-item, head-item, below, expr-at, tree-at}
 use Rattle.rules.specs.Range.{Bytes, Numbers, Stands, PlainStands, levels-below, next-of, next-child, bind-allowed, ExprFits, ExprsFit, BindsFit, ParamsFit, HeadsFit, TreeFits}
 use Rattle.rules.proofs.After.{After, fine, refused, after-ok, after-weaken, after-bind, after-need, after-choose, after-given, Puts, after-many, held-some}
 use Rattle.rules.proofs.Lists.{Piece, piece-none, piece-then}
@@ -46,11 +43,11 @@ marked : {s : List ℕ} {p : ℕ} {m : Mark} {f : Form} {ns : List ℕ} {q : ℕ
 marked {m = m} {f = f} a w = row-found (λ (x : Mark × Form). MarkOf (x .1) (x .0)) _ (rows a) (m, f) (rows-marked a) (w .fits .known) .1
 
 -- how many children groups want
-abbrev total : Groups → ℕ
+abbrev pub total : Groups → ℕ
 total [] = 0
 total (g ∷ gs) = g .0 + total gs
 
--- children that groups want stand as well behind a group that is spent
+-- children that groups want stand as well after a group that is spent
 spent-group : (es : Exprs) (c : Child) (gs : Groups) (levels p : ℕ) → ExprsFit es gs levels p → ExprsFit es ((0, c) ∷ gs) levels p
 unfolding ExprsFit next-child next-of
 spent-group no-exprs c gs levels p h = h

@@ -23,6 +23,20 @@ pub after-weaken : {A : Type 0} {P Q : A → Type 0} {o : Outcome A} → After P
 after-weaken (fine h) k = fine (k _ h)
 after-weaken refused k = refused
 
+-- in two ways
+pub after-both : {A : Type 0} {P Q : A → Type 0} {o : Outcome A} → After P o → After Q o → After (λ a. P a × Q a) o
+after-both (fine h) (fine k) = fine (h, k)
+after-both refused k = refused
+
+-- which answer it is
+pub after-self : {A : Type 0} (o : Outcome A) → After (λ a. o ≡ ok a) o
+after-self (ok a) = fine refl
+after-self (refuse number place) = refused
+
+-- of any answer whatever
+pub after-any : {A : Type 0} (o : Outcome A) → After (λ _. Unit {0}) o
+after-any o = after-weaken (after-self o) λ _ _. tt
+
 pub after-bind : {A B : Type 0} {P : A → Type 0} {Q : B → Type 0} {o : Outcome A} (f : A → Outcome B) → After P o → ((a : A) → P a → After Q (f a)) → After Q (o >>= f)
 unfolding _>>=_
 after-bind f (fine h) k = k _ h

@@ -9,28 +9,20 @@ use mathlib.Core.Path.{_≡_, refl, _∙_}
 use lib.ListN.{length}
 use lib.Dec.{lit<}
 use borrow.Author.Tests.{le-leb, eq-eqb}
-use Rattle.rules.specs.Outcome.{Outcome, ok, refuse, _>>=_, need, choose, given}
+use Rattle.rules.specs.Outcome.{Outcome, ok, _>>=_, need, choose, given}
 use Rattle.rules.specs.Numbers.{Mark, JT, ID, TV, VA, AR, LO, IM, FN, OB, PA, FH, code, record-bytes, numbers-bytes, bit, is-set}
 use Rattle.rules.specs.Records.{Span, span-numbers, span-in, numbers-of, size-of, fields, width, widths, all-in-range, in-range}
-use Rattle.rules.specs.Tree.{Expr, Exprs, Binds, Params, Heads, Head, Tree, count-exprs, count-binds, count-params, count-heads}
-use Rattle.rules.specs.Tree.{identity, constant, variable, constants, array, plain, import, local, function, object}
-use Rattle.rules.specs.Tree.{no-exprs, _then_, no-binds, bind, no-params, param, param-or, no-heads, fixed, computed}
+use Rattle.rules.specs.Tree.{Expr, Exprs, Binds, Params, Heads, Head, Tree, count-exprs, count-binds, count-params, count-heads, identity, constant, variable, constants, array, plain, import, local, function, object, no-exprs, _then_, no-binds, bind, no-params, param, param-or, no-heads, fixed, computed}
 use Rattle.rules.specs.Encode.{expr-bytes, exprs-bytes, binds-bytes, params-bytes, heads-bytes, constants-bytes, head-numbers, bind-mark, tree-bytes}
-use Rattle.rules.specs.FirstWalk.{Allowed, any-expression, Child, level, holder, Groups, expressions, assertion, only, bind-rows, value-groups, nth, nth-span, head-of, many, none-left}
-use Rattle.rules.specs.FirstWalk.{Form, an-identity, a-constant, a-variable, an-array, an-import, a-local, a-function, an-object, parts}
-use Rattle.rules.specs.FirstWalk.{row-of, expr-item, holder-at, child-at, groups-at, bind-item, param-item, head-item, below, expr-at, tree-at}
+use Rattle.rules.specs.FirstWalk.{Allowed, any-expression, Child, level, holder, Groups, expressions, assertion, only, bind-rows, value-groups, nth, nth-span, head-of, many, none-left, Form, an-identity, a-constant, a-variable, an-array, an-import, a-local, a-function, an-object, parts, row-of, expr-item, holder-at, child-at, groups-at, bind-item, param-item, head-item, below, expr-at, tree-at}
 use Rattle.rules.specs.Range.{Numbers, RecordFits, Stands, PlainStands, levels-below, next-of, next-child, bind-allowed, ExprFits, ExprsFit, BindsFit, ParamsFit, HeadsFit, TreeFits}
 use Rattle.rules.proofs.Lists.{Piece, piece-empty, piece-first, piece-second, piece-whole}
 use Rattle.rules.proofs.Spelling.{numbers-back}
 use Rattle.rules.proofs.Constants.{constants-length, constants-back, none-found}
 use Rattle.rules.proofs.RecordsBack.{numbers-length, record-back, record-cut}
+use Rattle.rules.proofs.Outcomes.{bind-assoc}
 
-bind-assoc : {A B C : Type 0} (o : Outcome A) (f : A → Outcome B) (g : B → Outcome C) → (o >>= f >>= g) ≡ (o >>= λ a. f a >>= g)
-unfolding _>>=_
-bind-assoc (ok a) f g = refl
-bind-assoc (refuse number place) f g = refl
-
--- groups read their next child first, and then what they want behind it
+-- groups read their next child first, and then what they want after it
 module _ (s : List ℕ) (sub : Allowed → ℕ → Outcome (Expr × ℕ)) where
   abbrev by-next : Option (Child × Groups) → ℕ → Outcome (Exprs × ℕ)
   by-next none p = ok (no-exprs, p)
@@ -80,7 +72,7 @@ module _ (s : List ℕ) where
   enter (level a) (suc levels) p q m f ns h piece = rw (record-back (h .1) piece, sub-one)
   enter (holder mark n) levels p q m f ns h piece = absurd h
 
-  -- and to what stands behind it
+  -- and to what stands after it
   open-record : (c : Child) (levels p q : ℕ) (m : Mark) (f : Form) (ns ys : List ℕ) → Stands c levels m f ns → Piece s p (record-bytes m ns ++ ys) q
       → (child-at s (expr-at s levels) c p ≡ below s (expr-at s (levels-below c levels)) f (record { mark = m; row = f; numbers = ns; next = p + size-of m }) p) × Piece s (p + size-of m) ys q
   unfolding Stands

@@ -3,11 +3,8 @@ use Prim.Native.Nat.{ℕ, _<_}
 use native.Mathlib.Omega.{arith}
 use mathlib.Core.List.{List, [], _∷_, _++_}
 use lib.Dec.{lit<}
-use Rattle.rules.specs.Numbers.{Mark, JT, ID, TV, VA, AR, OX, UN, BI, AS, LO, ER, IM, AP, IX, FN, IF, SC, OB, BV, BF, PA, AT, FH, NA, PT, LS, CS, SU, BL, AC, IY, FV, SH, DG}
-use Rattle.rules.specs.Numbers.{code, mark-bytes, number-bytes, numbers-bytes, record-bytes}
-use Rattle.rules.specs.Tree.{Expr, Exprs, Binds, Params, Heads, Tree}
-use Rattle.rules.specs.Tree.{identity, constant, variable, constants, array, plain, import, local, function, object}
-use Rattle.rules.specs.Tree.{no-exprs, _then_, no-binds, bind, no-params, param, param-or, no-heads, fixed, computed}
+use Rattle.rules.specs.Numbers.{Mark, JT, ID, TV, VA, AR, OX, UN, BI, AS, LO, ER, IM, AP, IX, FN, IF, SC, OB, BV, BF, PA, AT, FH, NA, PT, LS, CS, SU, BL, AC, IY, FV, SH, DG, code, mark-bytes, number-bytes, numbers-bytes, record-bytes}
+use Rattle.rules.specs.Tree.{Expr, Exprs, Binds, Params, Heads, Tree, identity, constant, variable, constants, array, plain, import, local, function, object, no-exprs, _then_, no-binds, bind, no-params, param, param-or, no-heads, fixed, computed}
 use Rattle.rules.specs.Encode.{constants-bytes, expr-bytes, exprs-bytes, binds-bytes, params-bytes, heads-bytes, tree-bytes}
 use Rattle.rules.specs.Range.{Bytes}
 

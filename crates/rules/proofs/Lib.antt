@@ -3,6 +3,8 @@ pub mod Computing
 pub mod WorkedCases
 pub mod Unique
 pub mod Refusals
+pub mod Outcomes
+pub mod Flags
 pub mod After
 pub mod Numbered
 pub mod Lists

@@ -8,19 +8,14 @@ use Rattle.rules.specs.Outcome.{Outcome, ok, refuse, is-refusal-number, 
 use Rattle.rules.specs.Numbers.{Name, Mark}
 use Rattle.rules.specs.Records.{Span}
 use Rattle.rules.specs.Depths.{AnalysisResult}
-use Rattle.rules.specs.Tree.{Expr, Exprs, Binds, Params, Heads, Tree}
-use Rattle.rules.specs.Tree.{identity, constant, variable, constants, array, plain, import, local, function, object}
-use Rattle.rules.specs.Tree.{no-exprs, _then_, no-binds, bind, no-params, param, param-or, no-heads, fixed, computed}
-use Rattle.rules.specs.FirstWalk.{Allowed, any-expression, Child, level, holder, Groups, Read, allowed, many, none-left}
-use Rattle.rules.specs.FirstWalk.{Form, an-identity, a-constant, a-variable, an-array, an-import, a-local, a-function, an-object, parts}
-use Rattle.rules.specs.FirstWalk.{record-at, expr-item, holder-at, child-at, groups-at, bind-item, param-item, head-item, below, expr-at, tree-at}
+use Rattle.rules.specs.Tree.{Expr, Exprs, Binds, Params, Heads, Tree, identity, constant, variable, constants, array, plain, import, local, function, object, no-exprs, _then_, no-binds, bind, no-params, param, param-or, no-heads, fixed, computed}
+use Rattle.rules.specs.FirstWalk.{Allowed, any-expression, Child, level, holder, Groups, Read, allowed, many, none-left, Form, an-identity, a-constant, a-variable, an-array, an-import, a-local, a-function, an-object, parts, record-at, expr-item, holder-at, child-at, groups-at, bind-item, param-item, head-item, below, expr-at, tree-at}
 use Rattle.rules.specs.Locals.{LocalDefinition}
 use Rattle.rules.specs.Frames.{ClosureFrame, resolve-at, resolve-to-slot}
 use Rattle.rules.specs.State.{Limits, AnalysisStack}
 use Rattle.rules.specs.Writing.{Level, emit, report, bad-place, open-frame, close-frame}
 use Rattle.rules.specs.Scoping.{push-local, push-in-frame, define-local, define-this, emit-slot, keep-references, record-spec-init, judge, judge-all, finish-frame}
-use Rattle.rules.specs.Walk.{Place, Naming, use-identity, use-local, use-import, define-binds, define-params, finish-function}
-use Rattle.rules.specs.Walk.{analyze, analyze-all, analyze-assertions, analyze-values, analyze-binds, analyze-params, analyze-heads}
+use Rattle.rules.specs.Walk.{Place, Naming, use-identity, use-local, use-import, define-binds, define-params, finish-function, analyze, analyze-all, analyze-assertions, analyze-values, analyze-binds, analyze-params, analyze-heads}
 use Rattle.rules.specs.Call.{define-externals, open-root, analyze-root}
 use Rattle.rules.proofs.After.{chosen}
 

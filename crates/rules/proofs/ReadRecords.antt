@@ -43,7 +43,7 @@ pub record Whole {A : Type 0} (s : List ℕ) (table : List (Mark × A)) (p : ℕ
 abbrev pub WholeRead : {A : Type 0} (s : List ℕ) (table : List (Mark × A)) (p : ℕ) (r : Read A) → Type 0
 WholeRead s table p r = Whole s table p (r .mark) (r .row) (r .numbers) (r .next)
 
-after-allowed : {A : Type 0} (o : Option (Mark × A)) (p : ℕ) → After (λ row. o ≡ some row) (allowed o p)
+pub after-allowed : {A : Type 0} (o : Option (Mark × A)) (p : ℕ) → After (λ row. o ≡ some row) (allowed o p)
 unfolding allowed
 after-allowed none p = refused
 after-allowed (some row) p = fine refl

@@ -35,7 +35,7 @@ record-back {s = s} {p = p} {m = m} {ns = ns} {q = q} fits h =
     let same : numbers-at s (numbers-of m) (p + 2) ≡ ns = rw (fits .counted) at (numbers-back ns (fits .numbers) (piece-second (mark-bytes m) (numbers-bytes ns) h)) in
     rw (enough, code-back m (piece-first (mark-bytes m) (numbers-bytes ns) h), fits .known, whole, same, fits .judged, behind)
 
--- what stands behind a record, and the record
+-- what stands after a record, and the record
 pub record-cut : {A : Type 0} {s : List ℕ} {table : List (Mark × A)} {p : ℕ} {m : Mark} {row : A} {ns : List ℕ} {q : ℕ} (ys : List ℕ)
     → RecordFits table m row ns → Piece s p (record-bytes m ns ++ ys) q → Piece s p (record-bytes m ns) (p + size-of m) × Piece s (p + size-of m) ys q
 record-cut {m = m} {ns = ns} ys fits h =

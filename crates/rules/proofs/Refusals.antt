@@ -1,6 +1,6 @@
 -- What holds of refusals on every input: 13 and 14 by lengths alone, that a refused call leaves zeros everywhere, and which numbers there are. Assumes nothing.
 use Prim.Native.Nat.{ℕ, _<_, _≤_}
-use mathlib.Core.Bool.{Bool, true, false, false≢true}
+use mathlib.Core.Bool.{true, false, false≢true}
 use mathlib.Core.Path.{_≡_, refl, subst}
 use lib.ListN.{length}
 use native.Mathlib.Nat.{sub-zero}

@@ -1,7 +1,7 @@
 -- The worked cases, computed: every call of both tables, but those at the limit of nesting (crates/rules_nested), has the whole answer that its table says. Assumes nothing.
-use mathlib.Core.List.{List, [], _∷_, map}
+use mathlib.Core.List.{[], _∷_, map}
 use mathlib.Core.Path.{_≡_, refl}
-use Rattle.rules.specs.Cases.{Case, Answer, answered, starred, one}
+use Rattle.rules.specs.Cases.{answered, starred, one}
 use Rattle.rules.specs.OwnCases.{own}
 use Rattle.rules.proofs.Computing.{everything}
 

@@ -100,7 +100,7 @@ row-of c (r ∷ rs) = choose (eqb c (code (r .0))) (λ _. some r) (λ _. row-of 
 
 -- Reading
 
--- a record that was read: its mark, what its table says of it, its numbers, and the place behind it
+-- a record that was read: its mark, what its table says of it, its numbers, and the place after it
 pub record Read (A : Type 0) : Type 0 where
   pub mark : Mark
   pub row : A

@@ -855,7 +855,7 @@ a-constant-missing = refused (lend ample (records-bytes ((JT, 0 ∷ []) ∷ (AR,
 abbrev pub no-tree : Case
 no-tree = refused (lend ample (records-bytes ((TV, 1 ∷ []) ∷ []))) 2 0
 
--- 111: `XX` where an expression should begin, and nothing behind it
+-- 111: `XX` where an expression should begin, and nothing after it
 abbrev pub no-mark : Case
 no-mark = refused (lend ample (records-bytes ((JT, 0 ∷ []) ∷ []) ++ (88 ∷ 88 ∷ []))) 2 6
 
@@ -899,7 +899,7 @@ no-visibility = refused (lend ample (records-bytes ((JT, 0 ∷ []) ∷ (OB, 0 �
 abbrev pub no-kind-cut-short : Case
 no-kind-cut-short = refused (lend ample (records-bytes ((JT, 0 ∷ []) ∷ []) ++ (73 ∷ 68 ∷ 3 ∷ 0 ∷ 0 ∷ 0 ∷ 101 ∷ 0 ∷ 0 ∷ []))) 1 6
 
--- 122: 1 and a byte behind it
+-- 122: 1 and a byte after it
 abbrev pub a-byte-behind : Case
 a-byte-behind = refused (lend ample (records-bytes ((JT, 0 ∷ []) ∷ (TV, 1 ∷ []) ∷ []) ++ (0 ∷ []))) 5 12
 

@@ -46,7 +46,7 @@ unfoldable pub levels-below : Child → ℕ → ℕ
 levels-below (level a) levels = levels - 1
 levels-below (holder mark n) levels = levels
 
--- the next child that groups want, and what they want behind it; `later` is that of the groups behind
+-- the next child that groups want, and what they want after it; `later` is that of the groups after
 unfoldable pub next-of : ℕ → Child → Groups → (later : Option (Child × Groups)) → Option (Child × Groups)
 next-of zero c gs later = later
 next-of (suc n) c gs later = some (c, ((n, c) ∷ gs))

@@ -31,7 +31,7 @@ propagate-analysis r ref =
     let a = depend-on-local (used .defined-at-depth) (taint-by (user .analysis) (used .analysis)) in
     record { locals = set (r .locals) (ref .user) (with-analysis a user); changed = r .changed || not (same-result a (user .analysis)) }
 
--- the second loop, behind the body: a sibling is used where its user is used
+-- the second loop, after the body: a sibling is used where its user is used
 unfoldable pub propagate-use : Loop
 propagate-use r ref =
     let at = local-at (r .locals) (ref .user) .used-at-depth in

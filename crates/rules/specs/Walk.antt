@@ -171,7 +171,7 @@ module _ (limits : Limits) where
 
   -- The end of a function
 
-  -- warning 10 behind the shape; "is taken back, `FN` unwritten, and becomes `IY`". `start` is the output's length before the function
+  -- warning 10 after the shape; "is taken back, `FN` unwritten, and becomes `IY`". `start` is the output's length before the function
   unfoldable pub finish-function : (place : ℕ) → Span → (start kept : ℕ) → Naming → (gives-argument : Bool) → AnalysisStack → Outcome AnalysisStack
   finish-function p span start kept naming gives-argument st = choose gives-argument
       (λ _. do

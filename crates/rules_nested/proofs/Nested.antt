@@ -1,7 +1,7 @@
 -- The worked cases at nesting 200 and 201, computed: every call has the whole answer that its table says. Assumes nothing.
-use mathlib.Core.List.{List, [], _∷_, map}
+use mathlib.Core.List.{map}
 use mathlib.Core.Path.{_≡_, refl}
-use Rattle.rules.specs.Cases.{Case, Answer, answered}
+use Rattle.rules.specs.Cases.{answered}
 use Rattle.rules.specs.OwnCases.{own-nested}
 use Rattle.rules.proofs.Computing.{everything}
 

@@ -17,7 +17,9 @@ use Rattle.table_locals.specs.Meaning.{local-of-row, locals-of}
 use Rattle.table_locals.specs.Tables.{PutLocal}
 use Rattle.table_locals.proofs.Laws.{locals-at, local-stored}
 use Rattle.table_references.specs.Meaning.{reference}
-use Rattle.settling.specs.Meaning.{round, Propagates}
+use Rattle.settling.specs.Meaning.{round, Propagates, loop-of}
+use Rattle.settling.specs.declared.LoopKind.{LoopKind}
+use Rattle.settling.specs.declared.LoopKind.the-variants.{Analysis, Use}
 
 -- What a round has changed already
 
@@ -25,7 +27,7 @@ use Rattle.settling.specs.Meaning.{round, Propagates}
 abbrev pub Ors : Loop → Type 0
 Ors loop = (ls : List LocalDefinition) (changed : Bool) (ref : Reference) → loop (round ls changed) ref ≡ round (loop (round ls false) ref .locals) (changed || loop (round ls false) ref .changed)
 
-pub analysis-ors : Ors propagate-analysis
+analysis-ors : Ors propagate-analysis
 unfolding propagate-analysis
 analysis-ors ls changed ref = refl
 
@@ -37,7 +39,7 @@ chosen-ors true ls ls′ false = refl
 chosen-ors false ls ls′ true = refl
 chosen-ors false ls ls′ false = refl
 
-pub use-ors : Ors propagate-use
+use-ors : Ors propagate-use
 unfolding propagate-use
 use-ors ls changed ref =
     let at = local-at ls (ref .user) .used-at-depth in
@@ -110,3 +112,7 @@ module _ (t : List ℕ) where
     pub use-stays : used-at-depth-of used ≤ used-at-depth-of user → Propagates propagate-use t t user used false
     unfolding choose
     use-stays not-lower = record { same = λ n user-below used-below. sym (chosen n user-below used-below ∙ rw (le-ltb (used-at-depth-of user) (used-at-depth-of used) not-lower)) }
+
+pub loop-ors : (which : LoopKind) → Ors (loop-of which)
+loop-ors Analysis = analysis-ors
+loop-ors Use = use-ors

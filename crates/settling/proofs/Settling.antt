@@ -5,6 +5,8 @@ use mathlib.Core.List.{List}
 use mathlib.Core.Path.{_≡_, refl, sym, ap, _∙_}
 use native.Mathlib.Numerals.{add-one}
 use native.Mathlib.Omega.{arith}
+use borrow.Author.Needs.{needs}
+use borrow.Author.Tests.{not-true, not-false}
 use lib.ListN.{length}
 use Rattle.rules.specs.Outcome.{choose}
 use Rattle.rules.specs.Locals.{LocalDefinition}
@@ -14,11 +16,11 @@ use Rattle.settling.specs.Meaning.{Below, Inside, round, after-rounds, O
 
 -- One round more
 
--- behind one round
+-- after one round
 abbrev once-more : Settled → Settled
 once-more s = after-rounds (s .locals) (suc (s .rounds))
 
--- behind so many rounds
+-- after so many rounds
 abbrev behind : ℕ → Settled → Settled
 behind rounds s = after-rounds (s .locals) (rounds + s .rounds)
 
@@ -94,3 +96,6 @@ module _ {loop : Loop} {refs : List Reference} {locals : List ℕ} (kept : ℕ) 
           ∙ ap (behind (kept + 1 - left)) (sym (first-round loop refs (locals-of n t) left more (rw something at (changing .same n below))))
           ∙ at .same n below;
     }
+
+-- what answers every need of a loop's function
+pub ruleset settling-needs = (needs, inside-still, settling-begins, settling-stops, settling-goes-on, settling-ends, not-true, not-false)

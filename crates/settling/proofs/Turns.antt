@@ -5,6 +5,7 @@ use mathlib.Core.List.{List, [], _∷_}
 use mathlib.Core.Path.{_≡_, refl, sym, ap, _∙_}
 use native.Mathlib.Numerals.{add-one}
 use native.Mathlib.Omega.{arith}
+use borrow.Author.Needs.{needs}
 use lib.ListN.{length, drop-of-length-le}
 use lib.Seq.{drop-cons}
 use Rattle.rules.specs.Settling.{Round, Loop, one-round}
@@ -13,7 +14,7 @@ use Rattle.table_references.specs.Meaning.{reference, refers, references-of, re
 use Rattle.table_references.specs.declared.Reference.{Reference}
 use Rattle.table_references.proofs.Keeping.{length-references}
 use Rattle.settling.specs.Meaning.{references-between, Below, Inside, round, Propagates, OneRound}
-use Rattle.settling.proofs.Propagating.{Ors}
+use Rattle.settling.proofs.Propagating.{Ors, loop-ors}
 
 -- The references that are left
 
@@ -73,3 +74,6 @@ module _ {loop : Loop} {references locals : List ℕ} {from to : ℕ} {t : List 
           ∙ ap (λ refs. one-round loop refs (round (locals-of n t) changed)) (sym next)
           ∙ at .same n below;
     }
+
+-- what answers every need of a round's function
+pub ruleset round-needs = (needs, round-begins, round-goes-on, round-ends, loop-ors)

@@ -5,9 +5,16 @@ use mathlib.Core.List.{List, [], _∷_}
 use mathlib.Core.Path.{_≡_}
 use lib.ListN.{length, drop}
 use Rattle.rules.specs.Locals.{LocalDefinition}
-use Rattle.rules.specs.Settling.{Reference, Round, Loop, one-round, Settled, settled}
+use Rattle.rules.specs.Settling.{Reference, Round, Loop, propagate-analysis, propagate-use, one-round, Settled, settled}
 use Rattle.table_locals.specs.Meaning.{locals-of}
 use Rattle.table_references.specs.Meaning.{reference, references-of}
+use Rattle.settling.specs.declared.LoopKind.{LoopKind}
+use Rattle.settling.specs.declared.LoopKind.the-variants.{Analysis, Use}
+
+-- the rules' loop that one is
+abbrev pub loop-of : LoopKind → Loop
+loop-of Analysis = propagate-analysis
+loop-of Use = propagate-use
 
 -- the references of the entries from `from` up to `to`
 unfoldable pub references-between : (from to : ℕ) → List ℕ → List Reference

@@ -70,7 +70,7 @@ fn analysed(tree: &[u8], out: &mut [u8], diagnostics: &mut [u8]) -> AnalysisRepo
     let mut frames = [0u32; TABLE];
     let mut captures = [0u32; TABLE];
     let mut references = [0u32; TABLE];
-    analyze::analyze(
+    analyze::analyze_root(
         tree,
         out,
         diagnostics,

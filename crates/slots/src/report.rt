@@ -4,10 +4,11 @@ use slots_text::diagnostics::Tally;
 use slots_text::text::fill;
 use slots_text::text::say;
 use value_depths::AnalysisResult;
+use value_depths::NEVER;
 
 // A depth, of which the greatest number stands for none.
 fn say_depth(depth: u32) {
-    if depth == 4294967295 {
+    if depth == NEVER {
         say(b" none");
     } else {
         fill(b" #", &[depth as u64]);

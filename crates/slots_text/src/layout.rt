@@ -1,4 +1,4 @@
-// An output as a tree: a record stands behind all that it owns, and is shown before it.
+// An output as a tree: a record stands after all that it owns, and is shown before it.
 use crate::parts::behind;
 use crate::parts::enter;
 use crate::parts::entry;

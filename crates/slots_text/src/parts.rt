@@ -9,7 +9,7 @@ pub fn front<'a>(bytes: &'a [u8], length: usize) -> &'a [u8] {
     &bytes[..length]
 }
 
-// The bytes from a place on; behind the end there are none.
+// The bytes from a place on; after the end there are none.
 pub fn behind<'a>(bytes: &'a [u8], at: usize) -> &'a [u8] {
     if bytes.len() < at {
         return &bytes[bytes.len()..];
@@ -24,7 +24,7 @@ pub fn wide(n: u32) -> usize
     n as usize
 }
 
-// An entry of a table; behind the end there are zeros.
+// An entry of a table; after the end there are zeros.
 pub fn entry(table: &[u32], i: usize) -> usize {
     if i < table.len() { wide(table[i]) } else { 0 }
 }

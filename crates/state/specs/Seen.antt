@@ -2,13 +2,15 @@
 use Prim.Native.Nat.{ℕ, _+_, _*_, _≤_, _<_}
 use mathlib.Core.List.{List}
 use lib.ListN.{length, take}
+use denote.Ref.{RefT, now}
+use denote.Triple.Both.{Both}
 use Rattle.rules.specs.Outcome.{Outcome, ok, refuse}
 use Rattle.rules.specs.Records.{Span}
 use Rattle.rules.specs.State as rules
 use Rattle.value_depths.specs.Meaning.{result}
 use Rattle.table_locals.specs.Meaning.{locals-of}
 use Rattle.table_references.specs.Meaning.{references-of}
-use Rattle.table_frames.specs.Meaning.{number}
+use Rattle.table_rows.specs.Entries.{number}
 use Rattle.resolver.specs.Meaning.{frames-of}
 use Rattle.resolver.specs.Kept.{Kept}
 use Rattle.state.specs.declared.AnalysisStack.{AnalysisStack}
@@ -32,6 +34,36 @@ pub record Buffers : Type 0 where
 abbrev pub buffers : (out diagnostics locals frames captures references : List ℕ) → Buffers
 buffers out diagnostics locals frames captures references =
     record { out = out; diagnostics = diagnostics; locals = locals; frames = frames; captures = captures; references = references }
+
+-- The same in a contract: what the caller's six buffers hold when a function is called (`held`, of a `requires`; `before`), and when it
+-- returns (`after`)
+
+abbrev pub Slice : Type 0
+Slice = RefT (List ℕ)
+
+abbrev pub Lent : Type 0
+Lent = Both Slice Slice
+
+-- what one of them holds at the call and at the return
+abbrev pub was : Lent → List ℕ
+was b = now (b .entry)
+
+abbrev pub is : Lent → List ℕ
+is b = now (b .exit)
+
+-- one that a function only reads
+abbrev pub unchanged : Lent → Lent
+unchanged b = record { entry = b .entry; exit = b .entry }
+
+abbrev pub held : (out diagnostics locals frames captures references : Slice) → Buffers
+held out diagnostics locals frames captures references = buffers (now out) (now diagnostics) (now locals) (now frames) (now captures) (now references)
+
+abbrev pub before : (out diagnostics locals frames captures references : Lent) → Buffers
+before out diagnostics locals frames captures references =
+    held (out .entry) (diagnostics .entry) (locals .entry) (frames .entry) (captures .entry) (references .entry)
+
+abbrev pub after : (out diagnostics locals frames captures references : Lent) → Buffers
+after out diagnostics locals frames captures references = held (out .exit) (diagnostics .exit) (locals .exit) (frames .exit) (captures .exit) (references .exit)
 
 -- the rules' state that they hold
 unfoldable pub stack : Buffers → AnalysisStack → rules.AnalysisStack

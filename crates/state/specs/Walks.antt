@@ -42,7 +42,7 @@ pub record Stands (h : Place) (st : AnalysisStack) : Type 0 where
   pub this-there : h .«in_object» ≡ true → h .«this_local» .0 < st .locals
   pub dollar-there : h .«in_object» ≡ true → h .«dollar_alias» .0 < st .locals
 
--- the state and the place behind
+-- the state and the place after
 abbrev pub walked : Walked → Buffers → Outcome (rules.AnalysisStack × ℕ)
 walked (walked-as.To st next) b = ok (stack b st, next)
 walked (walked-as.Refused number place) b = refuse number place
@@ -51,7 +51,7 @@ abbrev pub Walked-fits : Limits → Walked → Buffers → Type 0
 Walked-fits l (walked-as.To st next) b = Fit l b st
 Walked-fits l (walked-as.Refused number place) b = Unit {0}
 
--- how many are kept, the state and the place behind
+-- how many are kept, the state and the place after
 abbrev pub specs : Specs → Buffers → Outcome (ℕ × (rules.AnalysisStack × ℕ))
 specs (specs-as.To st next kept) b = ok (kept, (stack b st, next))
 specs (specs-as.Refused number place) b = refuse number place

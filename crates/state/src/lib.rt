@@ -1,4 +1,7 @@
-// The state of the analysis, which goes by value beside the lent tables: types only.
+// The state of the analysis, which goes by value beside the tables that the caller passed in; the answers of steps and walks, and each
+// as another where a walk goes on from a step.
+ghost use mathlib.Core.Path.{_≡_};
+ghost use Rattle.state.specs.Converting.{walked-to, specs-to, none-kept, walked-past};
 use value_depths::AnalysisResult;
 use value_local::LocalId;
 
@@ -33,7 +36,7 @@ pub enum Step {
     Refused(u32, usize),
 }
 
-// The state after a walk and the place behind what was walked, or the refusal's number and place.
+// The state after a walk and the place after what was walked, or the refusal's number and place.
 pub enum Walked {
     To(AnalysisStack, usize),
     Refused(u32, usize),
@@ -59,4 +62,44 @@ pub enum Naming {
     AsBind(u32, u32),
     AsMethod(u32, u32),
     AsComputedMethod(u32),
+}
+
+// A step's answer, with the place after what it did.
+pub fn walked_to(step: Step, next: usize) -> Walked
+    ensures { λ r. ⌜ r ≡ walked-to next step ⌝ }
+{
+    match step {
+        Step::Ok(st) => Walked::To(st, next),
+        Step::Refused(number, place) => Walked::Refused(number, place),
+    }
+}
+
+// The same with how many specs are kept.
+pub fn specs_to(step: Step, next: usize, kept: u32) -> Specs
+    ensures { λ r. ⌜ r ≡ specs-to next kept step ⌝ }
+{
+    match step {
+        Step::Ok(st) => Specs::To(st, next, kept),
+        Step::Refused(number, place) => Specs::Refused(number, place),
+    }
+}
+
+// A walk's answer, where no spec is kept yet.
+pub fn none_kept(walked: Walked) -> Specs
+    ensures { λ r. ⌜ r ≡ none-kept walked ⌝ }
+{
+    match walked {
+        Walked::To(st, next) => Specs::To(st, next, 0),
+        Walked::Refused(number, place) => Specs::Refused(number, place),
+    }
+}
+
+// The walk over a frame's specs, without how many of them are kept.
+pub fn walked_past(specs: Specs) -> Walked
+    ensures { λ r. ⌜ r ≡ walked-past specs ⌝ }
+{
+    match specs {
+        Specs::To(st, next, _) => Walked::To(st, next),
+        Specs::Refused(number, place) => Walked::Refused(number, place),
+    }
 }

@@ -1,4 +1,4 @@
--- Laws of a record behind the frame's end, and of the place behind it. Assumes nothing.
+-- Laws of a record after the frame's end, and of the place after it. Assumes nothing.
 use Prim.Native.Nat.{ℕ}
 use mathlib.Core.Bool.{Bool}
 use mathlib.Core.List.{List, [], _∷_}
@@ -21,10 +21,10 @@ use Rattle.state.specs.declared.Walked.the-variants as walked-as
 use Rattle.step_write.specs.Answers.{Emitted}
 use Rattle.step_write.proofs.Laws.{limits-same}
 use Rattle.step_record.specs.Answers.{outer-use, leave-object, ObjectLeft}
-use Rattle.step_record.proofs.Recording.{emit-steps}
+use Rattle.step_write.proofs.Emitting.{emitted-steps}
 use Rattle.step_emit.proofs.Laws.{Placed}
 
--- A record behind a step
+-- A record after a step
 
 abbrev Stepping : Type 0
 Stepping = rules.Limits → rules.AnalysisStack → Outcome rules.AnalysisStack
@@ -56,7 +56,7 @@ module _ (first : Stepping) (l : Limits) (b b₁ : Buffers) (st : AnalysisStack)
         fit = tt;
       }
 
--- Behind the frame's end
+-- After the frame's end
 
 module _ {l : Limits} {out out₁ diagnostics diagnostics₁ locals locals₁ frames captures captures₁ references : List ℕ} {st : AnalysisStack} (place kept before next : ℕ) {r₁ : Step}
     (finished : Steps r₁ l (buffers out diagnostics locals frames captures references) (buffers out₁ diagnostics₁ locals₁ frames captures₁ references) st
@@ -93,7 +93,7 @@ module _ {l : Limits} {out out₁ diagnostics diagnostics₁ locals locals₁ fr
     local-finished {out₂} emitted placed =
         walks-on (λ limits. scoping.finish-frame limits place kept before) l b b₁ st finished
         (λ limits. writing.emit limits place LO (kept ∷ [])) (to out₂) next is same-limits
-        (emit-steps LO l diagnostics₁ locals₁ frames captures₁ references refl emitted) placed
+        (emitted-steps emitted LO refl l diagnostics₁ locals₁ frames captures₁ references) placed
 
     pub object-finished : {out₂ : List ℕ} {r : Step} {w : Walked} (outermost self-used super-used : Bool) (assertions values : ℕ) (is-static : Bool)
         → ObjectLeft r out₁ out₂ st₁ place outermost self-used super-used kept assertions values is-static → Placed w r next

@@ -3,7 +3,7 @@ use Prim.Native.Nat.{ℕ, _*_, _≤_, _<_}
 use mathlib.Core.List.{List, [], _∷_}
 use mathlib.Core.Path.{_≡_, refl, sym, ap, _∙_}
 use native.Mathlib.Omega.{arith}
-use lib.ListN.{length, length-map}
+use lib.ListN.{length}
 use Rattle.rules.specs.Outcome.{Outcome, ok, refuse, _>>=_}
 use Rattle.rules.specs.Locals as rules-locals
 use Rattle.rules.specs.Records.{Span}
@@ -12,10 +12,7 @@ use Rattle.rules.specs.State as rules
 use Rattle.rules.specs.Writing as writing
 use Rattle.rules.specs.Scoping as scoping
 use Rattle.rules.proofs.After.{After, fine, after-ok, after-weaken, after-bind, after-need, after-choose, after-given}
-use Rattle.table_rows.specs.Rows.{rows}
-use Rattle.table_rows.proofs.Laws.{length-rows}
-use Rattle.table_references.specs.Meaning.{reference-of-row, references-of}
-use Rattle.table_frames.specs.Meaning.{number}
+use Rattle.table_rows.specs.Entries.{number}
 use Rattle.resolver.specs.Kept.{Kept}
 use Rattle.state.specs.Seen.{Buffers, buffers, stack, seen, limits-of, Fit}
 use Rattle.state.specs.Walks.{Steps}
@@ -26,6 +23,7 @@ use Rattle.state.specs.declared.Step.the-variants.{Ok, Refused}
 use Rattle.step_frame.specs.Answers.{FrameClosed}
 use Rattle.step_write.proofs.Laws.{limits-same}
 use Rattle.step_judge.specs.Answers.{SettledFrame, judge-frame, JudgedAll}
+use Rattle.table_references.proofs.Keeping.{length-references}
 use Rattle.step_close.specs.Answers.{forget-names, ForgottenNames}
 
 -- Judging leaves the references
@@ -52,10 +50,6 @@ module _ (limits : rules.Limits) (place : ℕ) where
       after-bind {P = λ T. T .references ≡ S .references} _
       (after-given _ _ _ (λ _. fine refl) (λ name _. judge-keeps name d S))
       (λ T e. after-weaken (all-keep ds T) (λ U f. f ∙ e))
-
-length-references : (n : ℕ) (t : List ℕ) → length (references-of n t) ≡ n
-unfolding references-of
-length-references n t = length-map (rows n t) reference-of-row ∙ length-rows n t
 
 -- as many references as there were, where they are the same
 as-many : (b c : Buffers) (st st′ : AnalysisStack) → stack c st′ .references ≡ stack b st .references → st′ .references ≡ st .references

@@ -1,5 +1,5 @@
 -- Laws of the state that has forgotten the names of the frame on top. Assumes nothing.
-use Prim.Native.Nat.{ℕ, zero, suc, _+_, _-_, _≤_, _<_}
+use Prim.Native.Nat.{ℕ, zero, suc, _-_, _≤_, _<_}
 use mathlib.Core.List.{List, [], _∷_, _++_, map}
 use mathlib.Core.Path.{_≡_, refl, sym, ap, _∙_}
 use native.Mathlib.Decide.{decLt}
@@ -15,12 +15,14 @@ use Rattle.table_rows.specs.Rows.{row, rows}
 use Rattle.table_rows.proofs.Laws.{length-rows}
 use Rattle.table_locals.specs.Meaning.{local-of-row, locals-of}
 use Rattle.table_references.specs.Meaning.{reference-of-row, references-of}
-use Rattle.table_frames.specs.Meaning.{number}
+use Rattle.table_rows.specs.Entries.{number}
 use Rattle.resolver.specs.Meaning.{frame-of, frames-of}
 use Rattle.resolver.proofs.Laws.{frames-top}
 use Rattle.state.specs.Seen.{Buffers, buffers, stack, Fit}
 use Rattle.state.specs.declared.AnalysisStack.{AnalysisStack}
 use Rattle.state.specs.declared.Limits.{Limits}
+use Rattle.state.proofs.Changing.{tables-to}
+use Rattle.state.proofs.Fitting.{fit-names}
 use Rattle.step_locals.specs.Answers.{FirstInFrame}
 use Rattle.step_close.specs.Answers.{forget-names, ForgottenNames}
 
@@ -81,20 +83,7 @@ module _ (b : Buffers) (st : AnalysisStack) where
 -- The state
 
 abbrev pub names-to : (first before : ℕ) → AnalysisStack → AnalysisStack
-names-to first before st = record {
-  locals = first;
-  frames = st .frames;
-  captures = st .captures;
-  references = before;
-  out = st .out;
-  diagnostics = st .diagnostics;
-  «self_used» = st .«self_used»;
-  «super_used» = st .«super_used»;
-  «dollar_used» = st .«dollar_used»;
-  taint = st .taint;
-  errored = st .errored;
-  rounds = st .rounds;
-}
+names-to first before st = tables-to first (st .frames) (st .captures) before st
 
 abbrev with-both : List rules-locals.LocalDefinition → List Reference → rules.AnalysisStack → rules.AnalysisStack
 with-both ls rs S = rules.with-references rs (rules.with-locals ls S)
@@ -107,28 +96,14 @@ module _ (b : Buffers) (l : Limits) (st : AnalysisStack) (first before : ℕ) (f
       (sym (take-locals first (st .locals) (b .locals) (omega (arith, first-there b st l f, is-first))) ∙ ap (λ (n : ℕ). take n (locals-of (st .locals) (b .locals))) is-first)
       ∙ ap (λ rs. with-both (take (first-in-frame (stack b st)) (locals-of (st .locals) (b .locals))) rs (stack b st)) (sym (take-references before (st .references) (b .references) there))
 
-  fit-names : Fit l b (names-to first before st)
-  fit-names = record {
-    locals-long = f .locals-long;
-    frames-long = f .frames-long;
-    captures-long = f .captures-long;
-    references-long = f .references-long;
-    few-locals = omega (arith, first-there b st l f, is-first, f .few-locals);
-    few-frames = f .few-frames;
-    few-captures = f .few-captures;
-    few-references = omega (arith, f .few-references);
-    out-long = f .out-long;
-    diagnostics-long = f .diagnostics-long;
-    frames-kept = f .frames-kept;
-    first-there = λ k lt. omega (arith, first-above b st l f k lt, is-first);
-    first-rises = f .first-rises;
-  }
+  names-fit : Fit l b (names-to first before st)
+  names-fit = fit-names f refl refl (omega (arith, first-there b st l f, is-first, f .few-locals)) (omega (arith, f .few-references)) (λ k lt. omega (arith, first-above b st l f k lt, is-first))
 
 pub names-forgotten : {first : ℕ} {frames : List ℕ} {st : AnalysisStack} (before : ℕ) → FirstInFrame first frames st
     → ForgottenNames (names-to first before st) frames st before
 names-forgotten {first} {frames} {st} before is-first = record {
   becomes = λ l out ds ls cs rs f there. record {
     same = same-names (buffers out ds ls frames cs rs) l st first before f (is-first .same out ds ls cs rs) there;
-    fit = fit-names (buffers out ds ls frames cs rs) l st first before f (is-first .same out ds ls cs rs) there;
+    fit = names-fit (buffers out ds ls frames cs rs) l st first before f (is-first .same out ds ls cs rs) there;
   };
 }

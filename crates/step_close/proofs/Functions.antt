@@ -1,4 +1,4 @@
--- Laws of a function's end: whether it gives its argument, and its record behind the frame's end. Assumes nothing.
+-- Laws of a function's end: whether it gives its argument, and its record after the frame's end. Assumes nothing.
 use Prim.Native.Nat.{ℕ, zero, suc, _+_, _-_, _≤_, _<_}
 use mathlib.Core.Bool.{Bool, true, false}
 use mathlib.Core.List.{List, [], _∷_}
@@ -140,7 +140,7 @@ module _ (defaults : Bool) (kept start to : ℕ) (out : List ℕ) where
             let end : to ≡ start + 6 = omega arith in
             is ∙ sym (by-body ∙ ap (λ bs. same-bytes bs (record-bytes LS (0 ∷ []))) (ap (λ (n : ℕ). drop start (take n out)) end ∙ drop-take start 6 out))
 
--- Behind the frame's end
+-- After the frame's end
 
 module _ {l : Limits} {out out₁ diagnostics diagnostics₁ locals locals₁ frames captures captures₁ references : List ℕ} {st : AnalysisStack}
     (place kept before next span start body-start : ℕ) (defaults : Bool) (naming : Naming) {gives : Bool}

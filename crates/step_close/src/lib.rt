@@ -5,16 +5,18 @@ ghost use Prim.Native.Nat.{_+_, _*_, _≤_};
 ghost use lib.ListN.{length, take, drop};
 ghost use Rattle.rules.specs.Numbers.{LS, same-bytes, record-bytes};
 ghost use Rattle.law_runs.specs.Steps.{gives-argument};
+ghost use Rattle.state.specs.Seen.{was, is};
 ghost use Rattle.step_close.specs.Answers.{ForgottenNames, Finishable, FrameFinished, LocalFinished, ObjectFinished, FunctionFinished};
+use settling::LoopKind;
 use state::AnalysisStack;
 use state::Limits;
 use state::Naming;
 use state::Step;
 use state::Walked;
-use step_emit::behind;
+use state::walked_to;
 use step_frame::close_frame;
 use step_judge::judge_all;
-use step_judge::settle_frame_use;
+use step_judge::settle_frame;
 use step_locals::first_in_frame;
 use step_record::FunctionEnd;
 use step_record::ObjectEnd;
@@ -25,7 +27,7 @@ use step_write::emit;
 // The names of the frame on top go, and the references kept since there were `before` of them.
 fn forget_names(frames: &[u32], st: AnalysisStack, before: u32) -> AnalysisStack
     requires { ⌜ 16 * st .frames ≤ length (now frames) ⌝ }
-    ensures { λ r. ⌜ ForgottenNames r (now (frames .entry)) st before ⌝ }
+    ensures { λ r. ⌜ ForgottenNames r (was frames) st before ⌝ }
 {
     let first = first_in_frame(frames, st);
     let mut after = st;
@@ -49,9 +51,10 @@ pub fn finish_frame(
     before: u32,
 ) -> Step
     requires { ⌜ Finishable (now out) (now diagnostics) (now locals) (now frames) (now captures) (now references) limits st kept before ⌝ }
-    ensures { λ r. ⌜ FrameFinished r (now (out .entry)) (now (out .exit)) (now (diagnostics .entry)) (now (diagnostics .exit)) (now (locals .entry)) (now (locals .exit)) (now (frames .entry)) (now (captures .entry)) (now (captures .exit)) (now (references .entry)) limits st at kept before ⌝ }
+    ensures { λ r. ⌜ FrameFinished r (was out) (is out) (was diagnostics) (is diagnostics) (was locals) (is locals)
+        (was frames) (was captures) (is captures) (was references) limits st at kept before ⌝ }
 {
-    let settled = settle_frame_use(locals, references, st, kept, before);
+    let settled = settle_frame(locals, references, st, kept, before, LoopKind::Use);
     let judged = judge_all(diagnostics, locals, frames, settled, at);
     match judged {
         Step::Ok(after) => {
@@ -83,7 +86,8 @@ pub fn finish_local(
     next: usize,
 ) -> Walked
     requires { ⌜ Finishable (now out) (now diagnostics) (now locals) (now frames) (now captures) (now references) limits st kept before ⌝ }
-    ensures { λ r. ⌜ LocalFinished r (now (out .entry)) (now (out .exit)) (now (diagnostics .entry)) (now (diagnostics .exit)) (now (locals .entry)) (now (locals .exit)) (now (frames .entry)) (now (captures .entry)) (now (captures .exit)) (now (references .entry)) limits st at kept before next ⌝ }
+    ensures { λ r. ⌜ LocalFinished r (was out) (is out) (was diagnostics) (is diagnostics) (was locals) (is locals)
+        (was frames) (was captures) (is captures) (was references) limits st at kept before next ⌝ }
 {
     let finished = finish_frame(
         out,
@@ -99,7 +103,7 @@ pub fn finish_local(
         before,
     );
     match finished {
-        Step::Ok(after) => behind(emit(out, after, at, b"LO", &[kept]), next),
+        Step::Ok(after) => walked_to(emit(out, after, at, b"LO", &[kept]), next),
         Step::Refused(why, place) => Walked::Refused(why, place),
     }
 }
@@ -119,8 +123,12 @@ pub fn finish_object(
     object: ObjectEnd,
     next: usize,
 ) -> Walked
-    requires { ⌜ Finishable (now out) (now diagnostics) (now locals) (now frames) (now captures) (now references) limits st (object .kept) before ⌝ }
-    ensures { λ r. ⌜ ObjectFinished r (now (out .entry)) (now (out .exit)) (now (diagnostics .entry)) (now (diagnostics .exit)) (now (locals .entry)) (now (locals .exit)) (now (frames .entry)) (now (captures .entry)) (now (captures .exit)) (now (references .entry)) limits st at (object .outermost) (object .«self_used») (object .«super_used») (object .kept) before (object .assertions) (object .values) (object .«is_static») next ⌝ }
+    requires { ⌜ Finishable (now out) (now diagnostics) (now locals) (now frames) (now captures) (now references) limits
+        st (object .kept) before ⌝ }
+    ensures { λ r. ⌜ ObjectFinished r (was out) (is out) (was diagnostics) (is diagnostics) (was locals) (is locals)
+        (was frames) (was captures) (is captures) (was references) limits st at (object .outermost)
+        (object .«self_used») (object .«super_used») (object .kept) before (object .assertions) (object .values)
+        (object .«is_static») next ⌝ }
 {
     let finished = finish_frame(
         out,
@@ -136,7 +144,7 @@ pub fn finish_object(
         before,
     );
     match finished {
-        Step::Ok(after) => behind(leave_object(out, after, at, object), next),
+        Step::Ok(after) => walked_to(leave_object(out, after, at, object), next),
         Step::Refused(why, place) => Walked::Refused(why, place),
     }
 }
@@ -144,7 +152,7 @@ pub fn finish_object(
 // Whether six bytes are the record of slot 0.
 fn is_first_slot(out: &[u8], at: usize) -> bool
     requires { ⌜ at + 6 ≤ length (now out) ⌝ }
-    ensures { λ r. ⌜ r ≡ same-bytes (take 6 (drop at (now (out .entry)))) (record-bytes LS (0 ∷ [])) ⌝ }
+    ensures { λ r. ⌜ r ≡ same-bytes (take 6 (drop at (was out))) (record-bytes LS (0 ∷ [])) ⌝ }
 {
     if out[at] != 0x4c {
         return false;
@@ -167,7 +175,7 @@ fn is_first_slot(out: &[u8], at: usize) -> bool
 // Whether a function keeps one parameter, with no default, and its body is that one's slot.
 fn gives_argument(out: &[u8], st: AnalysisStack, function: FunctionEnd) -> bool
     requires { ⌜ st .out ≤ length (now out) ⌝ }
-    ensures { λ r. ⌜ r ≡ gives-argument (function .defaults) (function .kept) (drop (function .«body_start») (take (st .out) (now (out .entry)))) ⌝ }
+    ensures { λ r. ⌜ r ≡ gives-argument (function .defaults) (function .kept) (drop (function .«body_start») (take (st .out) (was out))) ⌝ }
 {
     if function.kept != 1 {
         return false;
@@ -200,8 +208,11 @@ pub fn finish_function(
     naming: Naming,
     next: usize,
 ) -> Walked
-    requires { ⌜ Finishable (now out) (now diagnostics) (now locals) (now frames) (now captures) (now references) limits st (function .kept) before ⌝ }
-    ensures { λ r. ⌜ FunctionFinished r (now (out .entry)) (now (out .exit)) (now (diagnostics .entry)) (now (diagnostics .exit)) (now (locals .entry)) (now (locals .exit)) (now (frames .entry)) (now (captures .entry)) (now (captures .exit)) (now (references .entry)) limits st at (function .span) (function .start) (function .«body_start») (function .kept) before (function .defaults) naming next ⌝ }
+    requires { ⌜ Finishable (now out) (now diagnostics) (now locals) (now frames) (now captures) (now references) limits
+        st (function .kept) before ⌝ }
+    ensures { λ r. ⌜ FunctionFinished r (was out) (is out) (was diagnostics) (is diagnostics) (was locals) (is locals)
+        (was frames) (was captures) (is captures) (was references) limits st at (function .span) (function .start)
+        (function .«body_start») (function .kept) before (function .defaults) naming next ⌝ }
 {
     let gives = gives_argument(out, st, function);
     let finished = finish_frame(
@@ -220,7 +231,7 @@ pub fn finish_function(
     match finished {
         Step::Ok(after) => {
             let named = name_function(out, diagnostics, after, at, function, naming, gives);
-            behind(named, next)
+            walked_to(named, next)
         }
         Step::Refused(why, place) => Walked::Refused(why, place),
     }

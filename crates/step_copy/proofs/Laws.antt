@@ -1,4 +1,4 @@
--- Bytes of the tree copied behind what was written: a record's are its own spelling, and a constant's value that of its number. Assumes nothing.
+-- Bytes of the tree copied after what was written: a record's are its own spelling, and a constant's value that of its number. Assumes nothing.
 use Prim.Native.Nat.{ℕ, zero, suc, _+_, _*_, _-_, _≤_, _<_}
 use mathlib.Core.Bool.{true, false}
 use mathlib.Core.List.{List, [], _∷_, _++_}
@@ -29,9 +29,10 @@ use Rattle.state.specs.Walks.{Walks}
 use Rattle.state.specs.declared.AnalysisStack.{AnalysisStack}
 use Rattle.state.specs.declared.Limits.{Limits}
 use Rattle.state.specs.declared.Walked.the-variants as walked-as
+use Rattle.state.proofs.Changing.{out-to}
+use Rattle.state.proofs.Fitting.{fit-beside}
 use Rattle.step_write.specs.Answers.{Behind}
-use Rattle.step_write.proofs.Laws.{put-behind, out-to, emit-wrote, emit-full}
-use Rattle.step_write.proofs.Laws.{behind-more}
+use Rattle.step_write.proofs.Laws.{put-behind, emit-wrote, emit-full, behind-more}
 use Rattle.step_copy.specs.Answers.{RecordCopied, ConstantsEmitted, Numbers}
 
 -- Bytes one after another
@@ -131,7 +132,7 @@ value-more l used s small at i n more within =
     ∙ ap (λ (bs : List ℕ). sets l used bs) (sym (numbers-bytes-snoc (values-from s i at) (number-at s (at + 6 * i + 2))))
     ∙ ap (λ (ns : List ℕ). sets l used (numbers-bytes ns)) (sym (values-snoc s i at) ∙ ap (λ (k : ℕ). values-from s k at) (sym (add-one i)))
 
--- Bytes that stand behind what was written
+-- Bytes that stand after what was written
 
 stored-behind : (before after : List ℕ) (used next : ℕ) (bytes : List ℕ) → after ≡ sets before used bytes → next ≡ used + length bytes → next ≤ length before
     → Behind (written-as.To next) before after used bytes
@@ -139,25 +140,7 @@ unfolding put
 stored-behind before after used next bytes stored is within =
     put-behind (written-as.To next) before after used bytes (is, within, stored ∙ sets-eq bytes before used (omega arith))
 
-fits-out : {l : Limits} {out out′ diagnostics locals frames captures references : List ℕ} {st : AnalysisStack} (next : ℕ) → next ≤ length out′
-    → Fit l (buffers out diagnostics locals frames captures references) st → Fit l (buffers out′ diagnostics locals frames captures references) (out-to next st)
-fits-out next within fit = record {
-  locals-long = fit .locals-long;
-  frames-long = fit .frames-long;
-  captures-long = fit .captures-long;
-  references-long = fit .references-long;
-  few-locals = fit .few-locals;
-  few-frames = fit .few-frames;
-  few-captures = fit .few-captures;
-  few-references = fit .few-references;
-  out-long = within;
-  diagnostics-long = fit .diagnostics-long;
-  frames-kept = fit .frames-kept;
-  first-there = fit .first-there;
-  first-rises = fit .first-rises;
-}
-
--- and as a walk to the place behind the record
+-- and as a walk to the place after the record
 module _ (out : List ℕ) (st : AnalysisStack) (place behind : ℕ) (bytes ns : List ℕ) (m : Mark) (spelt : bytes ≡ record-bytes m ns)
     (l : Limits) (ds ls fs cs rs : List ℕ) (fit : Fit l (buffers out ds ls fs cs rs) st) where
   wrote-walks : (out′ : List ℕ) (next : ℕ) → length out′ ≡ length out → Behind (written-as.To next) out out′ (st .out) bytes
@@ -167,7 +150,7 @@ module _ (out : List ℕ) (st : AnalysisStack) (place behind : ℕ) (bytes ns : 
     same = λ limits is.
         ap (and-place behind) (emit-wrote out out′ st place bytes ns m spelt l ds ls fs cs rs next wrote
         ∙ ap (λ (L : rules.Limits). writing.emit L place m ns (stack (buffers out ds ls fs cs rs) st)) (sym is));
-    fit = fits-out next (omega (arith, wrote .1)) fit;
+    fit = fit-beside fit (omega (arith, wrote .1)) (fit .diagnostics-long);
   }
 
   full-walks : length out < st .out + length bytes

@@ -1,4 +1,4 @@
-// Records that the output takes from the tree as they stand there, and arrays of constants: their bytes copied behind those that are used.
+// Records that the output takes from the tree as they stand there, and arrays of constants: their bytes copied after those that are used.
 ghost use mathlib.Core.Path.{_≡_};
 ghost use Prim.Native.Nat.{_+_, _*_, _≤_, _<_};
 ghost use lib.ListN.{length, take, drop};
@@ -7,8 +7,10 @@ ghost use Rattle.rules.specs.Numbers.{numbers-bytes, code, code-at};
 ghost use Rattle.rules.specs.Records.{size-of};
 ghost use Rattle.bytes_records.specs.Marks.{mark-of};
 ghost use Rattle.law_runs.specs.Steps.{values-from};
+ghost use Rattle.state.specs.Seen.{was, is};
 ghost use Rattle.step_copy.specs.Answers.{RecordCopied, ConstantsEmitted, Numbers};
 use bytes_records::has_room;
+use bytes_records::offsets;
 use bytes_records::size_of;
 use bytes_write::put_record;
 use state::AnalysisStack;
@@ -17,7 +19,7 @@ use state::Walked;
 // Four bytes of the tree at a place of the output: all are read first, so that they are moved as one.
 fn copy_four(out: &mut [u8], to: usize, tree: &[u8], from: usize)
     requires { ⌜ (to + 4 ≤ length (now out)) × (from + 4 ≤ length (now tree)) ⌝ }
-    ensures { λ _. ⌜ now (out .exit) ≡ sets (now (out .entry)) to (take 4 (drop from (now (tree .entry)))) ⌝ }
+    ensures { λ _. ⌜ now (out .exit) ≡ sets (was out) to (take 4 (drop from (was tree))) ⌝ }
 {
     let a = tree[from];
     let b = tree[from + 1];
@@ -29,10 +31,10 @@ fn copy_four(out: &mut [u8], to: usize, tree: &[u8], from: usize)
     out[to + 3] = d;
 }
 
-// A record's n bytes behind those that are used: its mark, and numbers of four bytes each.
+// A record's n bytes after those that are used: its mark, and numbers of four bytes each.
 fn copy_bytes(out: &mut [u8], used: usize, tree: &[u8], at: usize, n: usize)
     requires { ⌜ (used + n ≤ length (now out)) × (at + n ≤ length (now tree)) × (Numbers 2 n) ⌝ }
-    ensures { λ _. ⌜ now (out .exit) ≡ sets (now (out .entry)) used (take n (drop at (now (tree .entry)))) ⌝ }
+    ensures { λ _. ⌜ now (out .exit) ≡ sets (was out) used (take n (drop at (was tree))) ⌝ }
 {
     out[used] = tree[at];
     out[used + 1] = tree[at + 1];
@@ -53,7 +55,7 @@ pub fn copy_record(
     mark: u32,
 ) -> Walked
     requires { ⌜ (at + size-of (mark-of mark) ≤ length (now tree)) × (code-at (now tree) at ≡ code (mark-of mark)) ⌝ }
-    ensures { λ r. ⌜ RecordCopied r (now (tree .entry)) (now (out .entry)) (now (out .exit)) st at next mark ⌝ }
+    ensures { λ r. ⌜ RecordCopied r (was tree) (was out) (is out) st at next mark ⌝ }
 {
     let size = size_of(mark);
     if has_room(out, st.out, size) {
@@ -66,14 +68,19 @@ pub fn copy_record(
     Walked::Refused(9, at)
 }
 
-// The values of n constants, of six bytes each, behind the bytes that are used.
+// The values of n constants, of six bytes each, after the bytes that are used.
 fn copy_values(out: &mut [u8], used: usize, tree: &[u8], at: usize, n: usize)
     requires { ⌜ (used + 4 * n ≤ length (now out)) × (at + 6 * n ≤ length (now tree)) ⌝ }
-    ensures { λ _. ⌜ now (out .exit) ≡ sets (now (out .entry)) used (numbers-bytes (values-from (now (tree .entry)) n at)) ⌝ }
+    ensures { λ _. ⌜ now (out .exit) ≡ sets (was out) used (numbers-bytes (values-from (was tree) n at)) ⌝ }
 {
     let mut i = 0;
     while i < n {
-        copy_four(out, used + 4 * i, tree, at + 6 * i + 2);
+        copy_four(
+            out,
+            used + 4 * i,
+            tree,
+            at + offsets::TV_SIZE * i + offsets::TV_CONSTANT,
+        );
         i += 1;
     }
 }
@@ -81,14 +88,20 @@ fn copy_values(out: &mut [u8], used: usize, tree: &[u8], at: usize, n: usize)
 // An array of n constants as one record, or refusal 9 where the whole of it has no room.
 pub fn emit_constants(tree: &[u8], out: &mut [u8], st: AnalysisStack, at: usize, n: usize) -> Walked
     requires { ⌜ (at + 6 + 6 * n ≤ length (now tree)) × (n < 4294967296) ⌝ }
-    ensures { λ r. ⌜ ConstantsEmitted r (now (tree .entry)) (now (out .entry)) (now (out .exit)) st at n ⌝ }
+    ensures { λ r. ⌜ ConstantsEmitted r (was tree) (was out) (is out) st at n ⌝ }
 {
-    let next = at + 6 + 6 * n;
+    let next = at + offsets::AR_SIZE + offsets::TV_SIZE * n;
     let size = 6 + 4 * n;
     if has_room(out, st.out, size) {
         let end = st.out + size;
         put_record(out, st.out, b"AC", &[n as u32]);
-        copy_values(out, st.out + 6, tree, at + 6, n);
+        copy_values(
+            out,
+            st.out + offsets::AR_SIZE,
+            tree,
+            at + offsets::AR_SIZE,
+            n,
+        );
         let mut after = st;
         after.out = end;
         return Walked::To(after, next);

@@ -4,12 +4,12 @@ use mathlib.Core.List.{List}
 use mathlib.Core.Path.{_≡_, subst}
 use native.Mathlib.Omega.{arith}
 use lib.ListN.{length}
-use Rattle.table_frames.specs.Meaning.{number}
+use Rattle.table_rows.specs.Entries.{number}
 use Rattle.state.specs.Seen.{buffers, Fit}
 use Rattle.state.specs.declared.AnalysisStack.{AnalysisStack}
 use Rattle.state.specs.declared.Limits.{Limits}
 use Rattle.state.specs.declared.Step.{Step}
-use Rattle.step_define.specs.Answers.{DefinedLocal}
+use Rattle.step_declare.specs.Defined.{DefinedLocal}
 
 -- what defining a name asks for
 pub define-asks : {l : Limits} {out diagnostics locals frames captures references : List ℕ} {st : AnalysisStack} {place : ℕ} → Fit l (buffers out diagnostics locals frames captures references) st → 0 < st .frames → place < 4294967296

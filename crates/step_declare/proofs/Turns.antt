@@ -1,9 +1,10 @@
 -- Turns of the loops that define names: what is left of the work, from here, gives what the whole gives. `Read` and `run` are those of binds, or
 -- of parameters. Assumes nothing.
-use Prim.Native.Nat.{ℕ, zero, suc, _+_, _-_, _≤_, _<_}
+use Prim.Native.Nat.{ℕ, suc, _+_, _-_, _≤_, _<_}
 use mathlib.Core.List.{List, [], _∷_}
 use mathlib.Core.Path.{_≡_, refl, sym, ap, subst, _∙_}
 use native.Mathlib.Omega.{arith}
+use borrow.Author.Needs.{needs}
 use lib.ListN.{length}
 use Rattle.rules.specs.Outcome.{Outcome, ok, refuse, _>>=_}
 use Rattle.rules.specs.Numbers.{number-at}
@@ -13,7 +14,7 @@ use Rattle.rules.specs.Locals.{LocalDefinition}
 use Rattle.rules.specs.State as rules
 use Rattle.rules.specs.Scoping as scoping
 use Rattle.rules.specs.Writing as rules-writing
-use Rattle.rules.proofs.After.{After, fine, refused, after-ok, after-bind, after-need, after-choose}
+use Rattle.rules.proofs.After.{After, fine, after-ok, after-bind, after-need, after-choose}
 use Rattle.resolver.specs.Meaning.{frames-of}
 use Rattle.bytes_skip.specs.Behind.{Skipped}
 use Rattle.law_runs.specs.Run.{Accepted, binds-at, params-at, run-define-binds, run-define-params}
@@ -24,17 +25,13 @@ use Rattle.state.specs.declared.Limits.{Limits}
 use Rattle.state.specs.declared.Step.{Step}
 use Rattle.state.specs.declared.Step.the-variants.{Ok, Refused}
 use Rattle.state.specs.declared.Walked.the-variants as walked-as
-use Rattle.step_define.specs.Answers.{DefinedLocal}
+use Rattle.resolver.proofs.Laws.{length-frames}
+use Rattle.step_declare.specs.Defined.{DefinedLocal}
 use Rattle.step_write.proofs.Laws.{limits-same}
-use Rattle.step_declare.specs.Answers.{Fitting, AfterParam}
-use Rattle.step_declare.proofs.Reading.{first-bind, first-param}
+use Rattle.step_declare.specs.Answers.{Binds-there, Params-there, Fitting, AfterParam, BindsDefined, ParamsDefined}
+use Rattle.step_declare.proofs.Reading.{first-bind, first-param, no-bind, no-param}
 
 -- A frame stays open
-
-pub length-frames : (n : ℕ) (frames : List ℕ) (count : ℕ) (captures : List ℕ) → length (frames-of n frames count captures) ≡ n
-unfolding frames-of
-length-frames zero frames count captures = refl
-length-frames (suc n) frames count captures = ap suc (length-frames n frames count captures)
 
 some-frame : (f : ClosureFrame) (fs : List ClosureFrame) (st : rules.AnalysisStack) → 0 < length (rules.with-frames (f ∷ fs) st .frames)
 unfolding rules.with-frames
@@ -213,6 +210,19 @@ binds-refuse s p levels n read L depth st number place e =
     b .defines L depth st
     ∙ ap (λ (x : Outcome rules.AnalysisStack). x >>= λ st. run-define-binds s L levels n (b .next) depth st) e
 
+module _ {s d₀ locals₀ frames₀ d locals frames : List ℕ} {l : Limits} {st₀ st : AnalysisStack} {at n depth i p : ℕ}
+    (D : Defining s (BindsRead s) (binds-run s) l d₀ locals₀ frames₀ st₀ at n depth i p st d locals frames) where
+  pub bind-there : i < n → Binds-there s n at → p + 10 ≤ length s
+  bind-there lt there = first-bind s (there .levels) _ _ (left-more s (BindsRead s) (binds-run s) D lt (there .levels) (there .read)) .fits
+
+  pub binds-stop : {d′ locals′ frames′ : List ℕ} {r : Step} {number place : ℕ} → i < n
+      → DefinedLocal r d d′ locals locals′ frames frames′ l st p (number-at s (p + 2)) (number-at s (p + 6)) depth → r ≡ Refused number place
+      → BindsDefined (walked-as.Refused number place) s d₀ d′ locals₀ locals′ frames₀ frames′ l st₀ at n depth
+  binds-stop lt defined e = record { defined = λ levels read out captures references f. defining-stop s (BindsRead s) (binds-run s) D lt (binds-refuse s p) defined _ _ e levels read out captures references }
+
+  pub binds-end : n ≤ i → BindsDefined (walked-as.To st p) s d₀ d locals₀ locals frames₀ frames l st₀ at n depth
+  binds-end le = record { defined = defining-end s (BindsRead s) (binds-run s) D le (no-bind s) }
+
 -- Parameters
 
 abbrev pub ParamsRead : List ℕ → (levels n p : ℕ) → Type 0
@@ -238,3 +248,24 @@ params-refuse s p levels n read L depth st number place e =
     let b = first-param s levels n p read in
     b .defines L depth st
     ∙ ap (λ (x : Outcome rules.AnalysisStack). x >>= λ st. run-define-params s L levels n (b .next) depth st) e
+
+module _ {s d₀ locals₀ frames₀ d locals frames : List ℕ} {l : Limits} {st₀ st : AnalysisStack} {at n depth i p : ℕ}
+    (D : Defining s (ParamsRead s) (params-run s) l d₀ locals₀ frames₀ st₀ at n depth i p st d locals frames) where
+  pub param-there : i < n → Params-there s n at → p + 14 ≤ length s
+  param-there lt there = first-param s (there .levels) _ _ (left-more s (ParamsRead s) (params-run s) D lt (there .levels) (there .read)) .fits
+
+  pub param-named : i < n → Params-there s n at → p + 10 ≤ length s
+  param-named lt there = omega (arith, param-there lt there)
+
+  pub params-stop : {d′ locals′ frames′ : List ℕ} {r : Step} {number place : ℕ} → i < n
+      → DefinedLocal r d d′ locals locals′ frames frames′ l st p (number-at s (p + 2)) (number-at s (p + 6)) depth → r ≡ Refused number place
+      → ParamsDefined (walked-as.Refused number place) s d₀ d′ locals₀ locals′ frames₀ frames′ l st₀ at n depth
+  params-stop lt defined e = record { defined = λ levels read out captures references f. defining-stop s (ParamsRead s) (params-run s) D lt (params-refuse s p) defined _ _ e levels read out captures references }
+
+  pub params-end : n ≤ i → ParamsDefined (walked-as.To st p) s d₀ d locals₀ locals frames₀ frames l st₀ at n depth
+  params-end le = record { defined = defining-end s (ParamsRead s) (params-run s) D le (no-param s) }
+
+-- what answers the needs of the two functions that define names, but for those that lie too far from their facts
+pub ruleset binds-needs = (needs, defining-begin, still-fitting, bind-there, binds-stop, binds-end)
+
+pub ruleset params-needs = (needs, defining-begin, still-fitting, param-named, params-stop, params-end)

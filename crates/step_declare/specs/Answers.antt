@@ -47,6 +47,6 @@ pub record ParamsDefined (r : Walked) (s diagnostics diagnostics′ locals local
       → Walks r limits (buffers out diagnostics locals frames captures references) (buffers out diagnostics′ locals′ frames′ captures references) st
       (λ limits st. run-define-params s limits levels n at depth st)
 
--- the place behind the parameter: its default follows it where it has one
+-- the place after the parameter: its default follows it where it has one
 abbrev pub AfterParam : List ℕ → (from to : ℕ) → Type 0
 AfterParam s from to = (number-at s (from + 10) ≡ 0 → to ≡ from + 14) × ((number-at s (from + 10) ≡ 0 → ⊥) → Skipped s (from + 14) to)

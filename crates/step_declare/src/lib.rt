@@ -1,16 +1,46 @@
-// The names of binds and of parameters, read from the packed tree and defined one after another.
-ghost use Prim.Native.Nat.{_+_, _<_, _≤_};
+// The names of binds and of parameters, read from the packed tree and defined one after another in the frame on top.
+ghost use Prim.Native.Nat.{_+_, _<_, _≤_, ℕ, _*_};
 ghost use lib.ListN.{length};
 ghost use Rattle.rules.specs.Numbers.{number-at};
-ghost use Rattle.step_define.specs.Answers.{DefinedLocal};
+ghost use Rattle.step_declare.specs.Defined.{DefinedLocal};
+ghost use Rattle.state.specs.Seen.{was, is};
 ghost use Rattle.step_declare.specs.Answers.{Binds-there, Params-there, Fitting, AfterParam, BindsDefined, ParamsDefined};
+ghost use Rattle.table_rows.specs.Entries.{number};
 use bytes_read::number_at;
+use bytes_records::offsets;
 use bytes_skip::skip;
 use state::AnalysisStack;
 use state::Limits;
 use state::Step;
 use state::Walked;
-use step_define::define_local;
+use step_locals::define_new;
+use step_locals::is_taken;
+use step_write::Level;
+use step_write::report;
+
+// Error 2 where the frame on top has the name already; else 11, then 6, or the name is defined.
+fn define_local(
+    diagnostics: &mut [u8],
+    locals: &mut [u32],
+    frames: &mut [u32],
+    limits: Limits,
+    st: AnalysisStack,
+    place: usize,
+    name: u32,
+    span: u32,
+    depth: u32,
+) -> Step
+    requires { ⌜ (16 * st .locals ≤ length (now locals)) × (16 * st .frames ≤ length (now frames)) ×
+        ((f : ℕ) → f < st .frames → number (now frames) f 1 ≤ st .locals) ⌝ }
+    requires { ⌜ (16 * limits .«max_locals» ≤ length (now locals)) × (0 < st .frames) × (place < 4294967296) ⌝ }
+    ensures { λ r. ⌜ DefinedLocal r (was diagnostics) (is diagnostics) (was locals) (is locals) (was frames) (is frames)
+        limits st place name span depth ⌝ }
+{
+    if is_taken(locals, frames, st, name) {
+        return report(diagnostics, st, place, Level::Error, 2, name, span);
+    }
+    define_new(locals, frames, limits, st, place, name, span, depth)
+}
 
 // The name of the bind or the parameter at an offset, whose span follows it.
 fn define_at(
@@ -23,11 +53,13 @@ fn define_at(
     at: usize,
     depth: u32,
 ) -> Step
-    requires { ⌜ (at + 10 ≤ length (now tree)) × (length (now tree) < 4294967296) × (0 < st .frames) × (Fitting limits (now diagnostics) (now locals) (now frames) st) ⌝ }
-    ensures { λ r. ⌜ DefinedLocal r (now (diagnostics .entry)) (now (diagnostics .exit)) (now (locals .entry)) (now (locals .exit)) (now (frames .entry)) (now (frames .exit)) limits st at (number-at (now (tree .entry)) (at + 2)) (number-at (now (tree .entry)) (at + 6)) depth ⌝ }
+    requires { ⌜ (at + 10 ≤ length (now tree)) × (length (now tree) < 4294967296) × (0 < st .frames) ×
+        (Fitting limits (now diagnostics) (now locals) (now frames) st) ⌝ }
+    ensures { λ r. ⌜ DefinedLocal r (was diagnostics) (is diagnostics) (was locals) (is locals) (was frames) (is frames)
+        limits st at (number-at (was tree) (at + 2)) (number-at (was tree) (at + 6)) depth ⌝ }
 {
-    let name = number_at(tree, at + 2);
-    let span = number_at(tree, at + 6);
+    let name = number_at(tree, at + offsets::BIND_NAME);
+    let span = number_at(tree, at + offsets::BIND_SPAN);
     define_local(
         diagnostics,
         locals,
@@ -53,8 +85,10 @@ pub fn define_binds(
     n: u32,
     depth: u32,
 ) -> Walked
-    requires { ⌜ (Binds-there (now tree) n at) × (length (now tree) < 4294967296) × (0 < st .frames) × (Fitting limits (now diagnostics) (now locals) (now frames) st) ⌝ }
-    ensures { λ r. ⌜ BindsDefined r (now (tree .entry)) (now (diagnostics .entry)) (now (diagnostics .exit)) (now (locals .entry)) (now (locals .exit)) (now (frames .entry)) (now (frames .exit)) limits st at n depth ⌝ }
+    requires { ⌜ (Binds-there (now tree) n at) × (length (now tree) < 4294967296) × (0 < st .frames) ×
+        (Fitting limits (now diagnostics) (now locals) (now frames) st) ⌝ }
+    ensures { λ r. ⌜ BindsDefined r (was tree) (was diagnostics) (is diagnostics) (was locals) (is locals) (was frames)
+        (is frames) limits st at n depth ⌝ }
 {
     let mut p = at;
     let mut reached = st;
@@ -69,21 +103,21 @@ pub fn define_binds(
                 return Walked::Refused(why, place);
             }
         }
-        p = skip(tree, p + 10);
+        p = skip(tree, p + offsets::BIND_SIZE);
         i += 1;
     }
     Walked::To(reached, p)
 }
 
-// The place behind the parameter at an offset, with its default.
+// The place after the parameter at an offset, with its default.
 fn after_param(tree: &[u8], at: usize) -> usize
     requires { ⌜ at + 14 ≤ length (now tree) ⌝ }
-    ensures { λ r. ⌜ AfterParam (now (tree .entry)) at r ⌝ }
+    ensures { λ r. ⌜ AfterParam (was tree) at r ⌝ }
 {
-    if number_at(tree, at + 10) == 0 {
-        return at + 14;
+    if number_at(tree, at + offsets::PA_DEFAULT) == 0 {
+        return at + offsets::PA_SIZE;
     }
-    skip(tree, at + 14)
+    skip(tree, at + offsets::PA_SIZE)
 }
 
 // The names of n parameters.
@@ -98,8 +132,10 @@ pub fn define_params(
     n: u32,
     depth: u32,
 ) -> Walked
-    requires { ⌜ (Params-there (now tree) n at) × (length (now tree) < 4294967296) × (0 < st .frames) × (Fitting limits (now diagnostics) (now locals) (now frames) st) ⌝ }
-    ensures { λ r. ⌜ ParamsDefined r (now (tree .entry)) (now (diagnostics .entry)) (now (diagnostics .exit)) (now (locals .entry)) (now (locals .exit)) (now (frames .entry)) (now (frames .exit)) limits st at n depth ⌝ }
+    requires { ⌜ (Params-there (now tree) n at) × (length (now tree) < 4294967296) × (0 < st .frames) ×
+        (Fitting limits (now diagnostics) (now locals) (now frames) st) ⌝ }
+    ensures { λ r. ⌜ ParamsDefined r (was tree) (was diagnostics) (is diagnostics) (was locals) (is locals) (was frames)
+        (is frames) limits st at n depth ⌝ }
 {
     let mut p = at;
     let mut reached = st;

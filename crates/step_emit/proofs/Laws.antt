@@ -1,38 +1,28 @@
--- Steps of the leaves as the walks' statements, and the place behind a step. Assumes nothing.
-use Prim.Native.Nat.{ℕ, zero, suc, _+_}
+-- Steps of the leaves as the walks' statements, and the place after a step. Assumes nothing.
+use Prim.Native.Nat.{ℕ, _+_}
 use mathlib.Core.Bool.{true, false}
 use mathlib.Core.List.{List, [], _∷_}
 use mathlib.Core.Path.{_≡_, refl, sym, ap, subst, _∙_}
-use lib.ListN.{getD}
 use Rattle.rules.specs.Outcome.{Outcome, _>>=_, choose}
 use Rattle.rules.specs.Records.{span-numbers}
-use Rattle.rules.specs.Numbers.{Mark, IM, FH, code, mark-bytes, number-at, is-set}
+use Rattle.rules.specs.Numbers.{IM, FH, code, mark-bytes, number-at, is-set}
 use Rattle.rules.specs.State as rules
 use Rattle.rules.specs.Writing as writing
 use Rattle.rules.specs.Walk as walk
 use Rattle.law_runs.specs.Steps.{and-place, import-steps, head-written}
 use Rattle.state.specs.Seen.{span-of, Buffers, buffers, stack, seen, Fit, Fits}
 use Rattle.state.specs.Walks.{walked, Walked-fits, Walks, Steps}
+use Rattle.state.specs.Converting.{walked-to}
 use Rattle.state.specs.declared.AnalysisStack.{AnalysisStack}
 use Rattle.state.specs.declared.Limits.{Limits}
 use Rattle.state.specs.declared.Step.{Step}
 use Rattle.state.specs.declared.Step.the-variants.{Ok, Refused}
 use Rattle.state.specs.declared.Walked.{Walked}
 use Rattle.step_write.specs.Answers.{Emitted, BadPlace}
-use Rattle.step_emit.specs.Answers.{behind, ImportAnalyzed, HeadEmitted}
+use Rattle.step_write.proofs.Emitting.{emitted-steps}
+use Rattle.step_emit.specs.Answers.{ImportAnalyzed, HeadEmitted}
 
 -- Steps of the leaves
-
-module _ {r : Step} {out out′ : List ℕ} {st : AnalysisStack} {place : ℕ} {mark ns : List ℕ} where
-  pub emitted-steps : Emitted r out out′ st place mark ns → (m : Mark) → getD mark 0 0 ∷ getD mark 1 0 ∷ [] ≡ mark-bytes m
-      → (l : Limits) (diagnostics locals frames captures references : List ℕ) → Fit l (buffers out diagnostics locals frames captures references) st
-      → Steps r l (buffers out diagnostics locals frames captures references) (buffers out′ diagnostics locals frames captures references) st
-      (λ limits s. writing.emit limits place m ns s)
-  emitted-steps emitted m spelled l ds ls fs cs rs fit = record {
-    same = λ limits is.
-        emitted .same m spelled l ds ls fs cs rs ∙ ap (λ (L : rules.Limits). writing.emit L place m ns (stack (buffers out ds ls fs cs rs) st)) (sym is);
-    fit = emitted .fit l ds ls fs cs rs fit;
-  }
 
 module _ {r : Step} {out out′ diagnostics diagnostics′ : List ℕ} {st : AnalysisStack} {place code name span bad : ℕ} where
   pub bad-steps : BadPlace r out out′ diagnostics diagnostics′ st place code name span bad
@@ -46,30 +36,30 @@ module _ {r : Step} {out out′ diagnostics diagnostics′ : List ℕ} {st : Ana
     fit = was-bad .fit l ls fs cs rs fit;
   }
 
--- The place behind
+-- The place after
 
-walked-behind : (next : ℕ) (r : Step) (b : Buffers) → walked (behind next r) b ≡ and-place next (seen r b)
-unfolding behind and-place _>>=_
+walked-behind : (next : ℕ) (r : Step) (b : Buffers) → walked (walked-to next r) b ≡ and-place next (seen r b)
+unfolding walked-to and-place _>>=_
 walked-behind next (Ok st) b = refl
 walked-behind next (Refused number place) b = refl
 
-fits-behind : (next : ℕ) (r : Step) (l : Limits) (b : Buffers) → Fits l r b → Walked-fits l (behind next r) b
-unfolding behind
+fits-behind : (next : ℕ) (r : Step) (l : Limits) (b : Buffers) → Fits l r b → Walked-fits l (walked-to next r) b
+unfolding walked-to
 fits-behind next (Ok st) l b fit = fit
 fits-behind next (Refused number place) l b fit = tt
 
--- a step's answer with the place behind, whatever the buffers hold
+-- a step's answer with the place after, whatever the buffers hold
 pub record Placed (r : Walked) (step : Step) (next : ℕ) : Type 0 where
   pub same : (b : Buffers) → walked r b ≡ and-place next (seen step b)
   pub fit : (l : Limits) (b : Buffers) → Fits l step b → Walked-fits l r b
 
-pub placed : {r : Walked} {step : Step} (next : ℕ) → r ≡ behind next step → Placed r step next
+pub placed : {r : Walked} {step : Step} (next : ℕ) → r ≡ walked-to next step → Placed r step next
 placed {step = step} next e = rw e (record { same = walked-behind next step; fit = fits-behind next step })
 
 module _ {r : Step} {w : Walked} (next : ℕ) {l : Limits} {b b′ : Buffers} {st : AnalysisStack} where
-  -- a step with the place behind it is a walk, and so is what the rules make of the state by the same step
+  -- a step with the place after it is a walk, and so is what the rules make of the state by the same step
   pub walks-behind : {f : rules.Limits → rules.AnalysisStack → Outcome rules.AnalysisStack} (g : rules.Limits → rules.AnalysisStack → Outcome (rules.AnalysisStack × ℕ))
-      → w ≡ behind next r → Steps r l b b′ st f → ((limits : rules.Limits) → and-place next (f limits (stack b st)) ≡ g limits (stack b st)) → Walks w l b b′ st g
+      → w ≡ walked-to next r → Steps r l b b′ st f → ((limits : rules.Limits) → and-place next (f limits (stack b st)) ≡ g limits (stack b st)) → Walks w l b b′ st g
   walks-behind g is steps agree = record {
     same = λ limits e. ap (λ (x : Walked). walked x b′) is ∙ walked-behind next r b′ ∙ ap (and-place next) (steps .same limits e) ∙ agree limits;
     fit = subst (λ (x : Walked). Walked-fits l x b′) (sym is) (fits-behind next r l b′ (steps .fit));
@@ -79,7 +69,7 @@ module _ {r : Step} {w : Walked} (next : ℕ) {l : Limits} {b b′ : Buffers} {s
 
 -- a head's numbers are the tree's, but for a computed name
 pub head-emitted : {r : Step} {w : Walked} {tree out out′ : List ℕ} {st : AnalysisStack} {at : ℕ} (next : ℕ) {kind name method visibility : ℕ}
-    → Emitted r out out′ st at (0x46 ∷ 0x48 ∷ []) (kind ∷ name ∷ method ∷ visibility ∷ []) → w ≡ behind next r
+    → Emitted r out out′ st at (0x46 ∷ 0x48 ∷ []) (kind ∷ name ∷ method ∷ visibility ∷ []) → w ≡ walked-to next r
     → kind ≡ number-at tree (at + 2) → name ≡ choose (is-set kind) (λ _. 0) (λ _. number-at tree (at + 6))
     → method ≡ number-at tree (at + 14) → visibility ≡ number-at tree (at + 18) → HeadEmitted w tree out out′ st at next
 unfolding mark-bytes code head-written
@@ -92,7 +82,7 @@ head-emitted {tree = tree} {at = at} next emitted is is-kind is-name is-method i
 -- Imports
 
 module _ {r : Step} {w : Walked} {tree out out′ : List ℕ} {st : AnalysisStack} {at span flag : ℕ}
-    (is : w ≡ behind (at + 18) r) (is-span : span ≡ number-at tree (at + 6)) (is-flag : flag ≡ number-at tree (at + 10)) where
+    (is : w ≡ walked-to (at + 18) r) (is-span : span ≡ number-at tree (at + 6)) (is-flag : flag ≡ number-at tree (at + 10)) where
   pub literal-import : {which path : ℕ} {diagnostics : List ℕ} → Emitted r out out′ st at (0x49 ∷ 0x4d ∷ []) (which ∷ span ∷ path ∷ [])
       → which ≡ number-at tree (at + 2) → path ≡ number-at tree (at + 14) → is-set flag ≡ true → ImportAnalyzed w tree out out′ diagnostics diagnostics st at
   unfolding mark-bytes code import-steps walk.use-import choose span-numbers
@@ -112,12 +102,3 @@ module _ {r : Step} {w : Walked} {tree out out′ : List ℕ} {st : AnalysisStac
   }
 
 -- a flag that was tested
-
-pub set-of : (n : ℕ) → (n ≡ 0 → ⊥) → is-set n ≡ true
-unfolding is-set
-set-of zero h = absurd (h refl)
-set-of (suc n) h = refl
-
-pub unset-of : (n : ℕ) → n ≡ 0 → is-set n ≡ false
-unfolding is-set
-unset-of n h = rw h refl

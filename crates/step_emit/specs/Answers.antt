@@ -1,4 +1,4 @@
--- A step's answer with the place behind, and what the records of imports and heads answer and leave, whatever the buffers hold that they do not
+-- What the records of imports and heads answer and leave, whatever the buffers hold that they do not
 -- touch. A primed list is what is left of a buffer. Assumes nothing.
 use Prim.Native.Nat.{ℕ}
 use mathlib.Core.List.{List}
@@ -7,15 +7,7 @@ use Rattle.state.specs.Seen.{buffers, Fit}
 use Rattle.state.specs.Walks.{Walks}
 use Rattle.state.specs.declared.AnalysisStack.{AnalysisStack}
 use Rattle.state.specs.declared.Limits.{Limits}
-use Rattle.state.specs.declared.Step.{Step}
-use Rattle.state.specs.declared.Step.the-variants.{Ok, Refused}
 use Rattle.state.specs.declared.Walked.{Walked}
-use Rattle.state.specs.declared.Walked.the-variants as walked-as
-
--- a step's answer, and the place behind
-unfoldable pub behind : ℕ → Step → Walked
-behind next (Ok st) = walked-as.To st next
-behind next (Refused number place) = walked-as.Refused number place
 
 -- Imports and heads
 

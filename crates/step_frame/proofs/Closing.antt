@@ -1,4 +1,4 @@
--- The shape of the top frame behind what was written, pair by pair, and then the frame closed, are the rules' `close-frame`. Assumes nothing.
+-- The shape of the top frame after what was written, pair by pair, and then the frame closed, are the rules' `close-frame`. Assumes nothing.
 use Prim.Native.Nat.{ℕ, suc, _+_, _*_, _-_, _≤_, _<_}
 use mathlib.Core.Bool.{Bool, true, false}
 use mathlib.Core.List.{List, [], _∷_, _++_, append-assoc, append-nil}
@@ -19,7 +19,7 @@ use Rattle.bytes_write.proofs.Laws.{length-numbers-bytes}
 use Rattle.bytes_write.specs.Put.{Put}
 use Rattle.bytes_write.specs.declared.Written.{Written}
 use Rattle.bytes_write.specs.declared.Written.the-variants.{To, NoRoom}
-use Rattle.table_frames.specs.Meaning.{number}
+use Rattle.table_rows.specs.Entries.{number}
 use Rattle.table_captures.specs.Meaning.{slot-kind, captures-of}
 use Rattle.resolver.specs.Meaning.{frame-of, frames-of}
 use Rattle.resolver.specs.Kept.{Kept}
@@ -32,9 +32,11 @@ use Rattle.state.specs.declared.AnalysisStack.{AnalysisStack}
 use Rattle.state.specs.declared.Limits.{Limits}
 use Rattle.state.specs.declared.Step.{Step}
 use Rattle.state.specs.declared.Step.the-variants.{Ok, Refused}
+use Rattle.state.proofs.Changing.{tables-to, out-to}
+use Rattle.state.proofs.Fitting.{fit-beside, fit-frames}
 use Rattle.step_write.specs.Answers.{Behind, Emitted}
 use Rattle.step_frame.specs.Answers.{shape-bytes, FrameClosed}
-use Rattle.step_write.proofs.Laws.{put-behind, behind-more, out-to, emit-wrote, emit-full}
+use Rattle.step_write.proofs.Laws.{put-behind, behind-more, emit-wrote, emit-full}
 
 -- Two numbers: the two bytes before them are put again
 
@@ -88,7 +90,7 @@ length-pairs-bytes : (owner i : ℕ) (captures : List ℕ) → length (pairs-byt
 length-pairs-bytes owner i captures =
     omega (arith, length-numbers-bytes (pairs-of (captures-of owner i captures)), length-pairs (captures-of owner i captures))
 
--- the pairs of the log's first entries stand behind the bytes that were used
+-- the pairs of the log's first entries stand after the bytes that were used
 pub record Pairing (before : List ℕ) (used : ℕ) (captures : List ℕ) (count owner : ℕ) (now : List ℕ) (to at : ℕ) : Type 0 where
   pub within : at ≤ count
   pub long : length now ≡ length before
@@ -195,20 +197,7 @@ module _ (limits : rules-state.Limits) (place : ℕ) (S : rules-state.AnalysisSt
 -- What the step leaves
 
 abbrev closed-to : (next count : ℕ) → AnalysisStack → AnalysisStack
-closed-to next count st = record {
-  locals = st .locals;
-  frames = st .frames - 1;
-  captures = count;
-  references = st .references;
-  out = next;
-  diagnostics = st .diagnostics;
-  «self_used» = st .«self_used»;
-  «super_used» = st .«super_used»;
-  «dollar_used» = st .«dollar_used»;
-  taint = st .taint;
-  errored = st .errored;
-  rounds = st .rounds;
-}
+closed-to next count st = out-to next (tables-to (st .locals) (st .frames - 1) count (st .references) st)
 
 fewer-beneath : (fs : List ClosureFrame) → count-captures (beneath fs) ≤ count-captures fs
 unfolding count-captures beneath
@@ -248,21 +237,10 @@ module _ (out out′ frames captures captures′ : List ℕ) (st : AnalysisStack
     pub frame-closed : FrameClosed (Ok (closed-to next count st)) out out′ frames captures captures′ st place
     frame-closed = record {
       same = closed-same;
-      fit = λ l ds ls rs fit. record {
-        locals-long = fit .locals-long;
-        frames-long = fit .frames-long;
-        captures-long = omega (arith, fit .captures-long);
-        references-long = fit .references-long;
-        few-locals = fit .few-locals;
-        few-frames = omega (arith, fit .few-frames);
-        few-captures = omega (arith, fewer, fit .few-captures);
-        few-references = fit .few-references;
-        out-long = omega (arith, written .1);
-        diagnostics-long = fit .diagnostics-long;
-        frames-kept = closed .kept;
-        first-there = λ f lt. fit .first-there f (omega arith);
-        first-rises = λ f g fg lt. fit .first-rises f g fg (omega arith);
-      };
+      fit = λ l ds ls rs fit. fit-beside
+          (fit-frames fit refl captures-long (omega (arith, fit .few-frames)) (omega (arith, fewer, fit .few-captures)) (closed .kept)
+          (λ f lt. fit .first-there f (omega arith)) (λ f g fg lt. fit .first-rises f g fg (omega arith)))
+          (omega (arith, written .1)) (fit .diagnostics-long);
     }
 
   pub frame-full : length out < st .out + length shape

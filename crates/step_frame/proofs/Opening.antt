@@ -14,21 +14,18 @@ use Rattle.rules.specs.Frames.{new-frame, top, beneath}
 use Rattle.rules.specs.State as rules-state
 use Rattle.rules.specs.Writing as rules-writing
 use Rattle.table_locals.proofs.Laws.{length-locals}
-use Rattle.table_frames.specs.Meaning.{number}
+use Rattle.table_rows.specs.Entries.{number}
 use Rattle.resolver.specs.Meaning.{frame-of, frames-of}
 use Rattle.resolver.specs.Answers.{Opened}
-use Rattle.resolver.proofs.Laws.{below-or-top}
+use Rattle.resolver.proofs.Laws.{below-or-top, length-frames}
 use Rattle.state.specs.Seen.{buffers, stack, seen, limits-of, Fit}
 use Rattle.state.specs.declared.AnalysisStack.{AnalysisStack}
 use Rattle.state.specs.declared.Limits.{Limits}
 use Rattle.state.specs.declared.Step.the-variants.{Ok, Refused}
+use Rattle.state.proofs.Changing.{frames-to}
+use Rattle.state.proofs.Fitting.{fit-frames}
 use Rattle.step_frame.specs.Answers.{FrameOpened}
 use Rattle.step_write.proofs.Laws.{passes, fails}
-
-length-frames : (n : ℕ) (frames : List ℕ) (count : ℕ) (captures : List ℕ) → length (frames-of n frames count captures) ≡ n
-unfolding frames-of
-length-frames zero frames count captures = refl
-length-frames (suc n) frames count captures = ap suc (length-frames n frames count captures)
 
 -- the same frames have the same first locals
 first-same : (n : ℕ) (frames frames′ : List ℕ) (count : ℕ) (captures : List ℕ)
@@ -38,22 +35,6 @@ first-same zero frames frames′ count captures e f lt = absurd (omega arith)
 first-same (suc n) frames frames′ count captures e f lt = ⊎-elim
     (first-same n frames frames′ count captures (ap beneath e) f)
     (λ at. rw at (ap (λ fs. top fs .first-local) e)) (below-or-top f n lt)
-
-abbrev frames-to : ℕ → AnalysisStack → AnalysisStack
-frames-to n st = record {
-  locals = st .locals;
-  frames = n;
-  captures = st .captures;
-  references = st .references;
-  out = st .out;
-  diagnostics = st .diagnostics;
-  «self_used» = st .«self_used»;
-  «super_used» = st .«super_used»;
-  «dollar_used» = st .«dollar_used»;
-  taint = st .taint;
-  errored = st .errored;
-  rounds = st .rounds;
-}
 
 module _ (l : Limits) (st : AnalysisStack) (place : ℕ) (is-defining : Bool) (before : List ℕ) where
   module _ (out diagnostics locals captures references : List ℕ) where
@@ -88,26 +69,14 @@ module _ (l : Limits) (st : AnalysisStack) (place : ℕ) (is-defining : Bool) (b
           ∙ passes (ltb (st .frames) (l .«max_frames»)) 7 place _ (lt-ltb (st .frames) (l .«max_frames») lt)))
 
       opened-fit : Fit l (buffers out diagnostics locals after captures references) (frames-to (st .frames + 1) st)
-      opened-fit = record {
-        locals-long = fit .locals-long;
-        frames-long = omega (arith, fit .frames-long);
-        captures-long = fit .captures-long;
-        references-long = fit .references-long;
-        few-locals = fit .few-locals;
-        few-frames = omega arith;
-        few-captures = fit .few-captures;
-        few-references = fit .few-references;
-        out-long = fit .out-long;
-        diagnostics-long = fit .diagnostics-long;
-        frames-kept = rw (add-one (st .frames)) (opened .kept captures (fit .frames-kept));
-        first-there = λ f lt. ⊎-elim
-            (λ less. rw (first-beneath f less) (fit .first-there f less))
-            (λ at. omega (arith, ap (λ (x : ℕ). number after x 1) at, first-new)) (below-or-top f (st .frames) (omega arith));
-        first-rises = λ f g fg lt. ⊎-elim
-            (λ less. rw (first-beneath f (omega arith), first-beneath g less) (fit .first-rises f g fg less))
-            (λ at. omega (arith, ap (λ (x : ℕ). number after x 1) at, first-new, first-beneath f (omega arith), fit .first-there f (omega arith)))
-            (below-or-top g (st .frames) (omega arith));
-      }
+      opened-fit = fit-frames fit long refl (omega arith) (fit .few-captures) (rw (add-one (st .frames)) (opened .kept captures (fit .frames-kept)))
+          (λ f lt. ⊎-elim
+          (λ less. rw (first-beneath f less) (fit .first-there f less))
+          (λ at. omega (arith, ap (λ (x : ℕ). number after x 1) at, first-new)) (below-or-top f (st .frames) (omega arith)))
+          (λ f g fg lt. ⊎-elim
+          (λ less. rw (first-beneath f (omega arith), first-beneath g less) (fit .first-rises f g fg less))
+          (λ at. omega (arith, ap (λ (x : ℕ). number after x 1) at, first-new, first-beneath f (omega arith), fit .first-there f (omega arith)))
+          (below-or-top g (st .frames) (omega arith)))
 
     pub frame-opened : FrameOpened (Ok (frames-to (st .frames + 1) st)) before after l st place is-defining
     frame-opened = record { same = opened-same; fit = opened-fit }

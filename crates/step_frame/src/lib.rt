@@ -8,6 +8,7 @@ ghost use Rattle.rules.specs.Writing.{pairs-of};
 ghost use Rattle.table_captures.specs.Meaning.{captures-of, SmallSource};
 ghost use Rattle.resolver.specs.Kept.{Kept};
 ghost use Rattle.step_write.specs.Answers.{Behind};
+ghost use Rattle.state.specs.Seen.{was, is};
 ghost use Rattle.step_frame.specs.Answers.{shape-bytes, FrameOpened, FrameClosed};
 use bytes_write::Written;
 use bytes_write::put_record;
@@ -28,29 +29,29 @@ pub fn open_frame(
     is_defining: bool,
 ) -> Step
     requires { ⌜ 16 * limits .«max_frames» ≤ length (now frames) ⌝ }
-    ensures { λ r. ⌜ FrameOpened r (now (frames .entry)) (now (frames .exit)) limits st place «is_defining» ⌝ }
+    ensures { λ r. ⌜ FrameOpened r (was frames) (is frames) limits st place «is_defining» ⌝ }
 {
     let n = st.frames;
     if limits.max_frames <= n {
         return Step::Refused(7, place);
     }
-    resolver::open_frame(frames, n, is_defining, st.locals, 0, st.captures);
+    resolver::push_frame(frames, n, is_defining, st.locals, 0, st.captures);
     let mut after = st;
     after.frames = n + 1;
     Step::Ok(after)
 }
 
-// Two numbers behind the bytes that were used. The two bytes before them are put again, because a record begins with two.
+// Two numbers after the bytes that were used. The two bytes before them are put again, because a record begins with two.
 fn put_pair(out: &mut [u8], used: usize, a: u32, b: u32) -> Written
     requires { ⌜ (2 ≤ used) × (used ≤ length (now out)) ⌝ }
-    ensures { λ r. ⌜ Behind r (now (out .entry)) (now (out .exit)) used (numbers-bytes (a ∷ b ∷ [])) ⌝ }
+    ensures { λ r. ⌜ Behind r (was out) (is out) used (numbers-bytes (a ∷ b ∷ [])) ⌝ }
 {
     let from = used - 2;
     let before = [out[from], out[from + 1]];
     put_record(out, from, &before, &[a, b])
 }
 
-// The sources of the owner's captures, of which none stands before `from`, behind the bytes that were used.
+// The sources of the owner's captures, of which none stands before `from`, after the bytes that were used.
 fn put_pairs(
     out: &mut [u8],
     used: usize,
@@ -62,7 +63,7 @@ fn put_pairs(
     requires { ⌜ (2 ≤ used) × (used ≤ length (now out)) ⌝ }
     requires { ⌜ (16 * count ≤ length (now captures)) × (from ≤ count) × (captures-of owner from (now captures) ≡ []) ⌝ }
     requires { ⌜ ((i : ℕ) → i < count → SmallSource (now captures) i) ⌝ }
-    ensures { λ r. ⌜ Behind r (now (out .entry)) (now (out .exit)) used (numbers-bytes (pairs-of (captures-of owner count (now (captures .entry))))) ⌝ }
+    ensures { λ r. ⌜ Behind r (was out) (is out) used (numbers-bytes (pairs-of (captures-of owner count (was captures)))) ⌝ }
 {
     let mut to = used;
     let mut at = from;
@@ -81,7 +82,7 @@ fn put_pairs(
     Written::To(to)
 }
 
-// The shape of the top of n frames behind the bytes that were used.
+// The shape of the top of n frames after the bytes that were used.
 fn put_shape(
     out: &mut [u8],
     used: usize,
@@ -91,7 +92,7 @@ fn put_shape(
     count: u32,
 ) -> Written
     requires { ⌜ (Kept n (now frames) count (now captures)) × (0 < n) ⌝ }
-    ensures { λ r. ⌜ Behind r (now (out .entry)) (now (out .exit)) used (shape-bytes n (now (frames .entry)) count (now (captures .entry))) ⌝ }
+    ensures { λ r. ⌜ Behind r (was out) (is out) used (shape-bytes n (was frames) count (was captures)) ⌝ }
 {
     let owner = n - 1;
     let frame = table_frames::frame_at(frames, owner);
@@ -113,7 +114,7 @@ pub fn close_frame(
     place: usize,
 ) -> Step
     requires { ⌜ Kept (st .frames) (now frames) (st .captures) (now captures) ⌝ }
-    ensures { λ r. ⌜ FrameClosed r (now (out .entry)) (now (out .exit)) (now (frames .entry)) (now (captures .entry)) (now (captures .exit)) st place ⌝ }
+    ensures { λ r. ⌜ FrameClosed r (was out) (is out) (was frames) (was captures) (is captures) st place ⌝ }
 {
     let n = st.frames;
     // With no frame the rules write a shape all the same, so that no caller has to show that one is open.
@@ -126,7 +127,7 @@ pub fn close_frame(
             let mut after = st;
             after.out = end;
             after.frames = n - 1;
-            after.captures = resolver::close_frame(frames, captures, n, st.captures);
+            after.captures = resolver::pop_frame(frames, captures, n, st.captures);
             Step::Ok(after)
         }
         Written::NoRoom => Step::Refused(9, place),

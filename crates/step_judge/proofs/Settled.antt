@@ -1,8 +1,7 @@
 -- A settling loop over the tables is the rules' `settle-frame`, and what fits still fits. Assumes nothing.
-use Prim.Native.Nat.{ℕ, zero, suc, _+_, _*_, _≤_}
+use Prim.Native.Nat.{ℕ, zero, suc, _+_}
 use mathlib.Core.List.{List, [], _∷_}
 use mathlib.Core.Path.{_≡_, ap}
-use native.Mathlib.Omega.{arith}
 use lib.ListN.{length, drop}
 use Rattle.rules.specs.Settling.{Reference, Loop, Settled}
 use Rattle.rules.specs.State as rules
@@ -10,6 +9,8 @@ use Rattle.rules.specs.Scoping.{settle-frame}
 use Rattle.settling.specs.Meaning.{references-between, Below, Inside, Settles}
 use Rattle.state.specs.Seen.{buffers, stack}
 use Rattle.state.specs.declared.AnalysisStack.{AnalysisStack}
+use Rattle.state.proofs.Changing.{rounds-to}
+use Rattle.state.proofs.Fitting.{fit-values, fit-entries}
 use Rattle.step_judge.specs.Answers.{Settleable, SettledFrame}
 
 below-rest : (n k : ℕ) (refs : List Reference) → Below n refs → Below n (drop k refs)
@@ -17,23 +18,6 @@ unfolding Below
 below-rest n zero refs h = h
 below-rest n (suc k) [] h = h
 below-rest n (suc k) (ref ∷ refs) h = below-rest n k refs (h .2)
-
--- the state with other rounds
-abbrev pub rounds-to : ℕ → AnalysisStack → AnalysisStack
-rounds-to rounds st = record {
-  locals = st .locals;
-  frames = st .frames;
-  captures = st .captures;
-  references = st .references;
-  out = st .out;
-  diagnostics = st .diagnostics;
-  «self_used» = st .«self_used»;
-  «super_used» = st .«super_used»;
-  «dollar_used» = st .«dollar_used»;
-  taint = st .taint;
-  errored = st .errored;
-  rounds = rounds;
-}
 
 module _ {locals references : List ℕ} {st : AnalysisStack} {kept before : ℕ} (s : Settleable locals references st kept before) where
   left-below : Below (st .locals) (references-between before (st .references) references)
@@ -52,20 +36,6 @@ module _ {locals references : List ℕ} {st : AnalysisStack} {kept before : ℕ}
         same =
             ap (λ (r : Settled). rules.with-rounds (st .rounds + r .rounds) (rules.with-locals (r .locals) (stack (buffers out diagnostics locals frames captures references) st)))
             (settles .same (st .locals) left-below);
-        fit = record {
-          locals-long = let h : 16 * l .«max_locals» ≤ length locals = f .locals-long in omega arith;
-          frames-long = f .frames-long;
-          captures-long = f .captures-long;
-          references-long = f .references-long;
-          few-locals = f .few-locals;
-          few-frames = f .few-frames;
-          few-captures = f .few-captures;
-          few-references = f .few-references;
-          out-long = f .out-long;
-          diagnostics-long = f .diagnostics-long;
-          frames-kept = f .frames-kept;
-          first-there = f .first-there;
-          first-rises = f .first-rises;
-        };
+        fit = fit-values (fit-entries f size);
       };
     }

@@ -1,6 +1,6 @@
 // The records with nothing below them, of which most items are: no walker is called for them.
 ghost use mathlib.Core.Path.{_≡_};
-ghost use Rattle.state.specs.Seen.{buffers};
+ghost use Rattle.state.specs.Seen.{held, before, after, was, unchanged};
 ghost use Rattle.state.specs.Walks.{place-of, Walks};
 ghost use Rattle.law_runs.specs.Run.{run-items};
 ghost use Rattle.law_joins.specs.Ready.{Ready};
@@ -9,6 +9,7 @@ use bytes_records::ID;
 use bytes_records::IM;
 use bytes_records::TV;
 use bytes_records::VA;
+use bytes_records::offsets;
 use state::AnalysisStack;
 use state::Limits;
 use state::Place;
@@ -46,12 +47,14 @@ pub fn on_leaf(
     mark: u32,
     here: Place,
 ) -> Walked
-    requires { ⌜ Ready limits (buffers (now out) (now diagnostics) (now locals) (now frames) (now captures) (now references)) st (now tree) at nest here ⌝ }
+    requires { ⌜ Ready limits (held out diagnostics locals frames captures references) st (now tree) at nest here ⌝ }
     requires { ⌜ Leaf-there (now tree) nest mark at ⌝ }
-    ensures { λ r. ⌜ (Walks r limits (buffers (now (out .entry)) (now (diagnostics .entry)) (now (locals .entry)) (now (frames .entry)) (now (captures .entry)) (now (references .entry))) (buffers (now (out .exit)) (now (diagnostics .exit)) (now (locals .exit)) (now (frames .entry)) (now (captures .exit)) (now (references .entry))) st (λ limits σ. run-items (now (tree .entry)) limits nest 1 at (place-of here) σ)) ⌝ }
+    ensures { λ r. ⌜ (Walks r limits (before out diagnostics locals frames captures references)
+        (after out diagnostics locals (unchanged frames) captures (unchanged references)) st
+        (λ limits σ. run-items (was tree) limits nest 1 at (place-of here) σ)) ⌝ }
 {
     match mark {
-        TV => copy_record(tree, out, st, at, at + 6, TV),
+        TV => copy_record(tree, out, st, at, at + offsets::TV_SIZE, TV),
         IM => analyze_import(tree, out, diagnostics, st, at),
         _ => analyze_name(
             tree,

@@ -1,4 +1,4 @@
--- Laws of a local behind the others and of the frame that counts it. Assumes nothing.
+-- Laws of a local after the others and of the frame that counts it. Assumes nothing.
 use Prim.Native.Nat.{ℕ, suc, _+_, _-_, _≤_, _<_}
 use mathlib.Core.Bool.{Bool, true, false}
 use mathlib.Core.List.{List, [], _∷_, _++_, map-append}
@@ -27,20 +27,21 @@ use Rattle.table_locals.specs.Meaning.{local-of-row, locals-of}
 use Rattle.table_locals.specs.Tables.{PutLocal}
 use Rattle.value_local.specs.declared.LocalDefinition.{LocalDefinition}
 use Rattle.table_locals.proofs.Laws.{length-locals}
-use Rattle.table_frames.specs.Meaning.{number}
+use Rattle.table_rows.specs.Entries.{number}
 use Rattle.resolver.specs.Meaning.{frame-of, frames-of}
 use Rattle.resolver.specs.Kept.{Kept}
 use Rattle.table_frames.specs.Answers.{FrameAt}
 use Rattle.table_frames.specs.declared.Frame.{Frame}
 use Rattle.table_captures.proofs.Laws.{eq-or-not}
 use Rattle.resolver.proofs.Laws.{frames-top, frames-agree}
-use Rattle.state.specs.Seen.{buffers, stack, limits-of}
+use Rattle.state.specs.Seen.{buffers, stack, limits-of, span-of}
 use Rattle.state.specs.declared.AnalysisStack.{AnalysisStack}
 use Rattle.state.specs.declared.Limits.{Limits}
 use Rattle.state.specs.declared.Step.{Step}
 use Rattle.state.specs.declared.Step.the-variants.{Ok, Refused}
 use Rattle.step_locals.specs.Answers.{PushedLocal, CountedLocal, PushedInFrame, DefinedNew, DefinedThis, one-more-local}
-use Rattle.state.specs.Seen.{span-of}
+use Rattle.state.proofs.Changing.{locals-to}
+use Rattle.state.proofs.Fitting.{fit-names, fit-frames}
 use Rattle.step_locals.proofs.Finding.{locals-of-top}
 
 -- A new local
@@ -60,7 +61,7 @@ pub new-is : {b : Binding} {name : Option Name} {span : Span} {depth : ℕ} {ana
 unfolding rules.new-local
 new-is a e = rw e
 
--- A local behind the others
+-- A local after the others
 
 locals-one-more : (n : ℕ) (t : List ℕ) → locals-of (suc n) t ≡ locals-of n t ++ (local-of-row (row n t) ∷ [])
 unfolding locals-of rows
@@ -72,23 +73,6 @@ locals-pushed n t u l put =
     ∙ ap (λ (ls : List rules.LocalDefinition). set ls n l) (locals-one-more n t)
     ∙ set-at (locals-of n t) (local-of-row (row n t)) [] l n (length-locals n t)
 
--- the state with so many locals
-abbrev with-n-locals : ℕ → AnalysisStack → AnalysisStack
-with-n-locals n st = record {
-  locals = n;
-  frames = st .frames;
-  captures = st .captures;
-  references = st .references;
-  out = st .out;
-  diagnostics = st .diagnostics;
-  «self_used» = st .«self_used»;
-  «super_used» = st .«super_used»;
-  «dollar_used» = st .«dollar_used»;
-  taint = st .taint;
-  errored = st .errored;
-  rounds = st .rounds;
-}
-
 module _ (locals : List ℕ) (limits : Limits) (st : AnalysisStack) (place : ℕ) (l : LocalDefinition) where
   pub no-room : limits .«max_locals» ≤ st .locals → PushedLocal (Refused 6 place) locals locals limits st place l
   unfolding push-local _>>=_ need stack limits-of
@@ -98,26 +82,12 @@ module _ (locals : List ℕ) (limits : Limits) (st : AnalysisStack) (place : ℕ
   }
 
   pub pushed : (locals′ : List ℕ) → st .locals < limits .«max_locals» → PutLocal locals locals′ (st .locals) (local l)
-      → PushedLocal (Ok (with-n-locals (st .locals + 1) st)) locals locals′ limits st place l
+      → PushedLocal (Ok (locals-to (st .locals + 1) st)) locals locals′ limits st place l
   unfolding push-local _>>=_ need stack limits-of with-locals
   pushed locals′ room put = record {
     same = λ out diagnostics frames captures references.
         rw (length-locals (st .locals) locals, lt-ltb (st .locals) (limits .«max_locals») room, add-one (st .locals), locals-pushed (st .locals) locals locals′ (local l) put);
-    fit = λ out diagnostics frames captures references fit. record {
-      locals-long = omega (arith, put .size, fit .locals-long);
-      frames-long = fit .frames-long;
-      captures-long = fit .captures-long;
-      references-long = fit .references-long;
-      few-locals = omega arith;
-      few-frames = fit .few-frames;
-      few-captures = fit .few-captures;
-      few-references = fit .few-references;
-      out-long = fit .out-long;
-      diagnostics-long = fit .diagnostics-long;
-      frames-kept = fit .frames-kept;
-      first-there = λ f h. omega (arith, fit .first-there f h);
-      first-rises = fit .first-rises;
-    };
+    fit = λ out diagnostics frames captures references fit. fit-names fit (put .size) refl (omega arith) (fit .few-references) (λ f h. omega (arith, fit .first-there f h));
   }
 
 -- The frame that counts it
@@ -168,27 +138,14 @@ module _ (frames frames′ : List ℕ) (st : AnalysisStack) (f : Frame) (is-open
   counted = record {
     same = λ out diagnostics locals captures references.
         ap (λ (fs : List ClosureFrame). with-frames fs (stack (buffers out diagnostics locals frames captures references) st)) (frames-counted (st .captures) captures);
-    fit = λ l out diagnostics locals captures references fit. record {
-      locals-long = fit .locals-long;
-      frames-long = omega (arith, size, fit .frames-long);
-      captures-long = fit .captures-long;
-      references-long = fit .references-long;
-      few-locals = fit .few-locals;
-      few-frames = fit .few-frames;
-      few-captures = fit .few-captures;
-      few-references = fit .few-references;
-      out-long = fit .out-long;
-      diagnostics-long = fit .diagnostics-long;
-      frames-kept = still-kept (st .captures) captures (fit .frames-kept);
-      first-there = λ k h. rw (first-same k) (fit .first-there k h);
-      first-rises = λ k g kg h. omega (arith, first-same k, first-same g, fit .first-rises k g kg h);
-    };
+    fit = λ l out diagnostics locals captures references fit. fit-frames fit size refl (fit .few-frames) (fit .few-captures) (still-kept (st .captures) captures (fit .frames-kept))
+        (λ k h. rw (first-same k) (fit .first-there k h)) (λ k g kg h. omega (arith, first-same k, first-same g, fit .first-rises k g kg h));
   }
 
 -- The definition one step at a time
 
 module _ (limits : state.Limits) (place : ℕ) (st : state.AnalysisStack) where
-  -- counting before the push is counting behind it
+  -- counting before the push is counting after it
   counted-first : (l : rules.LocalDefinition) → push-local limits place l (one-more-local st) ≡ push-in-frame limits place l st
   unfolding push-local push-in-frame one-more-local with-frames with-locals _>>=_ need
   counted-first l = by (ltb (length (st .locals)) (limits .locals))

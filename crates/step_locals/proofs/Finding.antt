@@ -17,7 +17,7 @@ use Rattle.find_name.specs.declared.Found.{Found}
 use Rattle.find_name.specs.declared.Found.the-variants.{At, Nothing}
 use Rattle.value_local.specs.declared.LocalId.{LocalId}
 use Rattle.table_locals.proofs.Laws.{length-locals}
-use Rattle.table_frames.specs.Meaning.{number}
+use Rattle.table_rows.specs.Entries.{number}
 use Rattle.resolver.specs.Meaning.{frame-of, frames-of}
 use Rattle.table_frames.specs.Answers.{FrameAt}
 use Rattle.table_frames.specs.declared.Frame.{Frame}

@@ -5,9 +5,9 @@ ghost use lib.ListN.{length};
 ghost use Rattle.rules.specs.Tree.{at-record};
 ghost use Rattle.rules.specs.Locals.{new-local};
 ghost use Rattle.value_local.specs.Meaning.{local, named};
-ghost use Rattle.table_frames.specs.Meaning.{number};
+ghost use Rattle.table_rows.specs.Entries.{number};
 ghost use Rattle.step_locals.specs.Answers.{FirstInFrame, IsTaken, CountedLocal, PushedLocal, PushedInFrame, DefinedNew, DefinedThis};
-ghost use Rattle.state.specs.Seen.{span-of};
+ghost use Rattle.state.specs.Seen.{span-of, was, is};
 use find_name::Found;
 use find_name::newest;
 use state::AnalysisStack;
@@ -17,13 +17,14 @@ use table_frames::frame_at;
 use table_frames::put_frame;
 use table_locals::put_local;
 use value_depths::AnalysisResult;
+use value_depths::NEVER;
 use value_local::LocalDefinition;
 use value_local::LocalId;
 
 // The id of the first local of the frame on top.
 pub fn first_in_frame(frames: &[u32], st: AnalysisStack) -> u32
     requires { ⌜ 16 * st .frames ≤ length (now frames) ⌝ }
-    ensures { λ r. ⌜ FirstInFrame r (now (frames .entry)) st ⌝ }
+    ensures { λ r. ⌜ FirstInFrame r (was frames) st ⌝ }
 {
     let n = st.frames;
     if n == 0 {
@@ -35,8 +36,9 @@ pub fn first_in_frame(frames: &[u32], st: AnalysisStack) -> u32
 
 // Whether the frame on top has defined the name.
 pub fn is_taken(locals: &[u32], frames: &[u32], st: AnalysisStack, name: u32) -> bool
-    requires { ⌜ (16 * st .locals ≤ length (now locals)) × (16 * st .frames ≤ length (now frames)) × ((f : ℕ) → f < st .frames → number (now frames) f 1 ≤ st .locals) ⌝ }
-    ensures { λ r. ⌜ IsTaken r (now (locals .entry)) (now (frames .entry)) st name ⌝ }
+    requires { ⌜ (16 * st .locals ≤ length (now locals)) × (16 * st .frames ≤ length (now frames)) ×
+        ((f : ℕ) → f < st .frames → number (now frames) f 1 ≤ st .locals) ⌝ }
+    ensures { λ r. ⌜ IsTaken r (was locals) (was frames) st name ⌝ }
 {
     let first = first_in_frame(frames, st);
     let n = st.locals - first;
@@ -47,7 +49,7 @@ pub fn is_taken(locals: &[u32], frames: &[u32], st: AnalysisStack, name: u32) ->
     }
 }
 
-// A local behind the others, where L allows.
+// A local after the others, where L allows.
 pub fn push_local(
     locals: &mut [u32],
     limits: Limits,
@@ -56,7 +58,7 @@ pub fn push_local(
     l: LocalDefinition,
 ) -> Step
     requires { ⌜ 16 * limits .«max_locals» ≤ length (now locals) ⌝ }
-    ensures { λ r. ⌜ PushedLocal r (now (locals .entry)) (now (locals .exit)) limits st place l ⌝ }
+    ensures { λ r. ⌜ PushedLocal r (was locals) (is locals) limits st place l ⌝ }
 {
     let n = st.locals;
     if limits.max_locals <= n {
@@ -71,7 +73,7 @@ pub fn push_local(
 // The frame on top has one local more.
 fn count_local(frames: &mut [u32], st: AnalysisStack)
     requires { ⌜ (16 * st .frames ≤ length (now frames)) × (0 < st .frames) × (number (now frames) (st .frames - 1) 2 < 65535) ⌝ }
-    ensures { λ _. ⌜ CountedLocal (now (frames .entry)) (now (frames .exit)) st ⌝ }
+    ensures { λ _. ⌜ CountedLocal (was frames) (is frames) st ⌝ }
 {
     let i = st.frames - 1;
     let mut top = frame_at(frames, i);
@@ -88,8 +90,9 @@ pub fn push_in_frame(
     place: usize,
     l: LocalDefinition,
 ) -> Step
-    requires { ⌜ (16 * limits .«max_locals» ≤ length (now locals)) × (16 * st .frames ≤ length (now frames)) × (0 < st .frames) × (number (now frames) (st .frames - 1) 2 < 65535) ⌝ }
-    ensures { λ r. ⌜ PushedInFrame r (now (locals .entry)) (now (locals .exit)) (now (frames .entry)) (now (frames .exit)) limits st place l ⌝ }
+    requires { ⌜ (16 * limits .«max_locals» ≤ length (now locals)) × (16 * st .frames ≤ length (now frames)) ×
+        (0 < st .frames) × (number (now frames) (st .frames - 1) 2 < 65535) ⌝ }
+    ensures { λ r. ⌜ PushedInFrame r (was locals) (is locals) (was frames) (is frames) limits st place l ⌝ }
 {
     count_local(frames, st);
     push_local(locals, limits, st, place, l)
@@ -109,7 +112,7 @@ fn new_local(
     let none = AnalysisResult::no_dependence();
     LocalDefinition {
         defined_at_depth: depth,
-        used_at_depth: 4294967295,
+        used_at_depth: NEVER,
         used_by_sibling: false,
         analysis: none,
         analyzed: analyzed,
@@ -133,8 +136,9 @@ pub fn define_new(
     span: u32,
     depth: u32,
 ) -> Step
-    requires { ⌜ (16 * limits .«max_locals» ≤ length (now locals)) × (16 * st .frames ≤ length (now frames)) × (0 < st .frames) × (place < 4294967296) ⌝ }
-    ensures { λ r. ⌜ DefinedNew r (now (locals .entry)) (now (locals .exit)) (now (frames .entry)) (now (frames .exit)) limits st place name span depth ⌝ }
+    requires { ⌜ (16 * limits .«max_locals» ≤ length (now locals)) × (16 * st .frames ≤ length (now frames)) ×
+        (0 < st .frames) × (place < 4294967296) ⌝ }
+    ensures { λ r. ⌜ DefinedNew r (was locals) (is locals) (was frames) (is frames) limits st place name span depth ⌝ }
 {
     let top = frame_at(frames, st.frames - 1);
     if 65535 <= top.n_locals {
@@ -153,8 +157,9 @@ pub fn define_this(
     place: usize,
     depth: u32,
 ) -> Step
-    requires { ⌜ (16 * limits .«max_locals» ≤ length (now locals)) × (16 * st .frames ≤ length (now frames)) × (0 < st .frames) × (number (now frames) (st .frames - 1) 2 < 65535) × (place < 4294967296) ⌝ }
-    ensures { λ r. ⌜ DefinedThis r (now (locals .entry)) (now (locals .exit)) (now (frames .entry)) (now (frames .exit)) limits st place depth ⌝ }
+    requires { ⌜ (16 * limits .«max_locals» ≤ length (now locals)) × (16 * st .frames ≤ length (now frames)) ×
+        (0 < st .frames) × (number (now frames) (st .frames - 1) 2 < 65535) × (place < 4294967296) ⌝ }
+    ensures { λ r. ⌜ DefinedThis r (was locals) (is locals) (was frames) (is frames) limits st place depth ⌝ }
 {
     let l = new_local(place as u32, false, 0, 0, depth, true);
     push_in_frame(locals, frames, limits, st, place, l)

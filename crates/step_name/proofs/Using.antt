@@ -32,51 +32,22 @@ use Rattle.state.specs.declared.Limits.{Limits}
 use Rattle.state.specs.declared.Place.{Place}
 use Rattle.state.specs.declared.Step.{Step}
 use Rattle.state.specs.declared.Walked.{Walked}
+use Rattle.state.proofs.Changing.{marks-to, taint-to}
+use Rattle.state.proofs.Fitting.{fit-values, fit-entries}
 use Rattle.step_touch.specs.Answers.{TouchedLocal, TouchedObject}
-use Rattle.step_use.specs.Answers.{SlotEmitted}
+use Rattle.step_name.specs.Slots.{SlotEmitted}
 use Rattle.step_write.specs.Answers.{Emitted, BadPlace}
-use Rattle.step_emit.specs.Answers.{behind}
+use Rattle.step_write.proofs.Emitting.{emitted-steps}
+use Rattle.state.specs.Converting.{walked-to}
 use Rattle.step_name.specs.Answers.{identity-id, object-used, identity-step, variable-step, name-step, UsedObject, UsedLocal, SlotLeft, StepMade, Left, Uses, NameAnalyzed}
 use Rattle.step_name.specs.declared.Used.{Used}
 use Rattle.step_name.specs.declared.Used.the-variants.{Slot, Done}
-use Rattle.step_emit.proofs.Laws.{emitted-steps, bad-steps, walks-behind}
+use Rattle.step_emit.proofs.Laws.{bad-steps, walks-behind}
 
--- The state with another dependence and other marks of the present object, which fits where it did
+-- The state with another dependence and other marks of the present object
 
 abbrev pub used-as : (self super dollar : Bool) → AnalysisResult → AnalysisStack → AnalysisStack
-used-as self super dollar taint st = record {
-  locals = st .locals;
-  frames = st .frames;
-  captures = st .captures;
-  references = st .references;
-  out = st .out;
-  diagnostics = st .diagnostics;
-  «self_used» = self;
-  «super_used» = super;
-  «dollar_used» = dollar;
-  taint = taint;
-  errored = st .errored;
-  rounds = st .rounds;
-}
-
-fits-used : (self super dollar : Bool) (taint : AnalysisResult) {l : Limits} {out diagnostics locals locals′ frames captures references : List ℕ} {st : AnalysisStack}
-    → length locals′ ≡ length locals → Fit l (buffers out diagnostics locals frames captures references) st
-    → Fit l (buffers out diagnostics locals′ frames captures references) (used-as self super dollar taint st)
-fits-used self super dollar taint long fit = record {
-  locals-long = omega (arith, fit .locals-long);
-  frames-long = fit .frames-long;
-  captures-long = fit .captures-long;
-  references-long = fit .references-long;
-  few-locals = fit .few-locals;
-  few-frames = fit .few-frames;
-  few-captures = fit .few-captures;
-  few-references = fit .few-references;
-  out-long = fit .out-long;
-  diagnostics-long = fit .diagnostics-long;
-  frames-kept = fit .frames-kept;
-  first-there = fit .first-there;
-  first-rises = fit .first-rises;
-}
+used-as self super dollar taint st = taint-to taint (marks-to self super dollar st)
 
 -- An object's `this`
 
@@ -92,7 +63,7 @@ module _ {touched : AnalysisStack} {locals : List ℕ} {st : AnalysisStack} {id 
         let S = stack (buffers out ds locals fs cs rs) st in
         ap₂ (λ (u : rules.ObjectUse) (a : depths.AnalysisResult). rules.with-taint a (rules.with-object-use u S)) is
         (ap (λ (s : rules.AnalysisStack). s .taint) (t .same out ds fs cs rs));
-    fit = λ l out ds fs cs rs fit. fits-used self super dollar (touched .taint) refl fit;
+    fit = λ l out ds fs cs rs fit. fit-values fit;
     as-many-frames = refl;
     as-many-captures = refl;
   }
@@ -126,14 +97,14 @@ module _ {touched : AnalysisStack} {locals locals′ : List ℕ} {st : AnalysisS
       ap (λ (n : ℕ). locals-of n locals′) (sym many) ∙ whole
 
   pub local-used : length locals′ ≡ length locals
-      → UsedLocal (used-as (st .«self_used») (st .«super_used») (st .«dollar_used») (touched .taint) st) locals locals′ st depth id
+      → UsedLocal (taint-to (touched .taint) st) locals locals′ st depth id
   unfolding stack scoping.touch-local rules.with-taint rules.with-locals
   local-used long = record {
     same = λ out ds fs cs rs.
         let S = stack (buffers out ds locals fs cs rs) st in
         ap₂ (λ (ls : List locals-rules.LocalDefinition) (a : depths.AnalysisResult). rules.with-taint a (rules.with-locals ls S)) (locals-set out ds fs cs rs)
         (ap (λ (s : rules.AnalysisStack). s .taint) (t .same out ds fs cs rs));
-    fit = λ l out ds fs cs rs fit. fits-used (st .«self_used») (st .«super_used») (st .«dollar_used») (touched .taint) long fit;
+    fit = λ l out ds fs cs rs fit. fit-values (fit-entries fit long);
     as-many-frames = refl;
     as-many-captures = refl;
   }
@@ -335,7 +306,7 @@ module _ {used : Used} {out out′ diagnostics diagnostics′ locals locals′ :
 
 module _ (tree : List ℕ) (here : Place) {used : Used} {out out′ diagnostics diagnostics′ locals locals′ : List ℕ} {st : AnalysisStack} {at mark : ℕ}
     (u : Uses used out out′ diagnostics diagnostics′ locals locals′ st at (λ limits σ. name-step limits tree mark at (place-of here) σ))
-    {r : Step} {w : Walked} (is : w ≡ behind (at + 10) r) {frames captures : List ℕ} {limits : Limits} where
+    {r : Step} {w : Walked} (is : w ≡ walked-to (at + 10) r) {frames captures : List ℕ} {limits : Limits} where
   pub name-slot : {after : AnalysisStack} {id : LocalId} {out″ captures′ : List ℕ} → used ≡ Slot after id → SlotEmitted r out′ out″ frames captures captures′ limits after at (id .0)
       → NameAnalyzed w tree out out″ diagnostics diagnostics′ locals locals′ frames captures captures′ limits st at mark here
   name-slot e emitted = record {

@@ -1,27 +1,75 @@
-// Names, self, super and $: each read in the tree, used, its slot written, and the place behind it answered.
+// Names, self, super and $: each read in the tree, used, resolved in the frame on top, its slot written, and the place after it answered.
 ghost use mathlib.Core.Path.{_≡_};
 ghost use Prim.Native.Nat.{_+_, _*_, _≤_, _<_};
 ghost use lib.ListN.{length};
 ghost use Rattle.rules.specs.Numbers.{number-at, code, ID};
 ghost use Rattle.resolver.specs.Kept.{Kept};
 ghost use Rattle.state.specs.Walks.{place-of, Stands};
+ghost use Rattle.state.specs.Seen.{was, is};
 ghost use Rattle.step_name.specs.Answers.{identity-id, identity-step, variable-step, name-step, UsedObject, UsedLocal, Uses, NameAnalyzed};
+ghost use Rattle.step_name.specs.Slots.{SlotWritten, SlotEmitted};
 use bytes_read::number_at;
 use bytes_records::ID;
+use bytes_records::offsets;
 use find_name::Found;
 use find_name::newest;
+use resolver::Resolved;
+use resolver::resolve_to_slot;
 use state::AnalysisStack;
 use state::Limits;
 use state::Place;
 use state::Step;
 use state::Walked;
-use step_emit::behind;
+use state::walked_to;
 use step_touch::touch_local;
 use step_touch::touch_object;
-use step_use::emit_slot;
 use step_write::bad_place;
 use step_write::emit;
+use table_captures::LSlot;
+use table_captures::slot_number;
 use value_local::LocalId;
+
+// `LS` or `CS` and the slot's number.
+fn write_slot(out: &mut [u8], st: AnalysisStack, place: usize, slot: LSlot) -> Step
+    ensures { λ r. ⌜ SlotWritten r (was out) (is out) st place slot ⌝ }
+{
+    let number = [slot_number(slot)];
+    match slot {
+        LSlot::Local(_) => emit(out, st, place, b"LS", &number),
+        LSlot::Capture(_) => emit(out, st, place, b"CS", &number),
+    }
+}
+
+// The slot of a local in the frame on top, captured on the way where it must be (12, then 8).
+fn emit_slot(
+    out: &mut [u8],
+    frames: &[u32],
+    captures: &mut [u32],
+    limits: Limits,
+    st: AnalysisStack,
+    place: usize,
+    id: LocalId,
+) -> Step
+    requires { ⌜ (Kept (st .frames) (now frames) (st .captures) (now captures)) × (16 * limits .«max_captures» ≤ length (now captures)) ⌝ }
+    ensures { λ r. ⌜ SlotEmitted r (was out) (is out) (was frames) (was captures) (is captures) limits st place (id .0) ⌝ }
+{
+    let r = resolve_to_slot(
+        frames,
+        captures,
+        st.frames,
+        st.captures,
+        limits.max_captures,
+        id,
+    );
+    match r {
+        Resolved::To(slot, count) => {
+            let mut after = st;
+            after.captures = count;
+            write_slot(out, after, place, slot)
+        }
+        Resolved::Refused(why) => Step::Refused(why, place),
+    }
+}
 
 // What using a name leaves to do: to write the slot of its local, or nothing.
 pub enum Used {
@@ -33,7 +81,7 @@ pub enum Used {
 // the counts are seen to stay.
 fn use_object(locals: &[u32], st: AnalysisStack, which: u32, id: LocalId) -> AnalysisStack
     requires { ⌜ (16 * st .locals ≤ length (now locals)) × (id .0 < st .locals) ⌝ }
-    ensures { λ r. ⌜ UsedObject r (now (locals .entry)) st which (id .0) ⌝ }
+    ensures { λ r. ⌜ UsedObject r (was locals) st which (id .0) ⌝ }
 {
     let touched = touch_object(locals, st, id);
     let taint = touched.taint;
@@ -74,10 +122,12 @@ fn use_identity(
     at: usize,
     here: Place,
 ) -> Used
-    requires { ⌜ (at + 10 ≤ length (now tree)) × (number-at (now tree) (at + 2) < 3) × (Stands here st) × (16 * st .locals ≤ length (now locals)) ⌝ }
-    ensures { λ r. ⌜ Uses r (now (out .entry)) (now (out .exit)) (now (diagnostics .entry)) (now (diagnostics .exit)) (now (locals .entry)) (now (locals .entry)) st at (λ limits σ. identity-step limits (now (tree .entry)) at (place-of here) σ) ⌝ }
+    requires { ⌜ (at + 10 ≤ length (now tree)) × (number-at (now tree) (at + 2) < 3) × (Stands here st) ×
+        (16 * st .locals ≤ length (now locals)) ⌝ }
+    ensures { λ r. ⌜ Uses r (was out) (is out) (was diagnostics) (is diagnostics) (was locals) (was locals) st at
+        (λ limits σ. identity-step limits (was tree) at (place-of here) σ) ⌝ }
 {
-    let which = number_at(tree, at + 2);
+    let which = number_at(tree, at + offsets::ID_KIND);
     if here.in_object {
         let id = identity_id(which, here);
         let after = use_object(locals, st, which, id);
@@ -86,14 +136,14 @@ fn use_identity(
         }
         return Used::Slot(after, id);
     }
-    let span = number_at(tree, at + 6);
+    let span = number_at(tree, at + offsets::ID_SPAN);
     Used::Done(bad_place(out, diagnostics, st, at, 3 + which, 0, span, which))
 }
 
 // A use of a local, of whose changes to the state only the dependence is taken, as above.
 fn use_local(locals: &mut [u32], st: AnalysisStack, depth: u32, id: LocalId) -> AnalysisStack
     requires { ⌜ (16 * st .locals ≤ length (now locals)) × (id .0 < st .locals) ⌝ }
-    ensures { λ r. ⌜ UsedLocal r (now (locals .entry)) (now (locals .exit)) st depth (id .0) ⌝ }
+    ensures { λ r. ⌜ UsedLocal r (was locals) (is locals) st depth (id .0) ⌝ }
 {
     let touched = touch_local(locals, st, depth, id);
     let taint = touched.taint;
@@ -113,9 +163,10 @@ fn use_variable(
     here: Place,
 ) -> Used
     requires { ⌜ (at + 10 ≤ length (now tree)) × (16 * st .locals ≤ length (now locals)) ⌝ }
-    ensures { λ r. ⌜ Uses r (now (out .entry)) (now (out .exit)) (now (diagnostics .entry)) (now (diagnostics .exit)) (now (locals .entry)) (now (locals .exit)) st at (λ limits σ. variable-step limits (now (tree .entry)) at (place-of here) σ) ⌝ }
+    ensures { λ r. ⌜ Uses r (was out) (is out) (was diagnostics) (is diagnostics) (was locals) (is locals) st at
+        (λ limits σ. variable-step limits (was tree) at (place-of here) σ) ⌝ }
 {
-    let name = number_at(tree, at + 2);
+    let name = number_at(tree, at + offsets::VA_NAME);
     let found = newest(locals, name, 0, st.locals as usize);
     match found {
         Found::At(id) => {
@@ -123,7 +174,7 @@ fn use_variable(
             Used::Slot(after, id)
         }
         Found::Nothing => {
-            let span = number_at(tree, at + 6);
+            let span = number_at(tree, at + offsets::VA_SPAN);
             Used::Done(bad_place(out, diagnostics, st, at, 1, name, span, 3))
         }
     }
@@ -140,8 +191,10 @@ fn use_name(
     mark: u32,
     here: Place,
 ) -> Used
-    requires { ⌜ (at + 10 ≤ length (now tree)) × (mark ≡ code ID → number-at (now tree) (at + 2) < 3) × (Stands here st) × (16 * st .locals ≤ length (now locals)) ⌝ }
-    ensures { λ r. ⌜ Uses r (now (out .entry)) (now (out .exit)) (now (diagnostics .entry)) (now (diagnostics .exit)) (now (locals .entry)) (now (locals .exit)) st at (λ limits σ. name-step limits (now (tree .entry)) mark at (place-of here) σ) ⌝ }
+    requires { ⌜ (at + 10 ≤ length (now tree)) × (mark ≡ code ID → number-at (now tree) (at + 2) < 3) × (Stands here st)
+        × (16 * st .locals ≤ length (now locals)) ⌝ }
+    ensures { λ r. ⌜ Uses r (was out) (is out) (was diagnostics) (is diagnostics) (was locals) (is locals) st at
+        (λ limits σ. name-step limits (was tree) mark at (place-of here) σ) ⌝ }
 {
     match mark {
         ID => use_identity(tree, out, diagnostics, locals, st, at, here),
@@ -164,17 +217,19 @@ pub fn analyze_name(
     mark: u32,
     here: Place,
 ) -> Walked
-    requires { ⌜ (at + 10 ≤ length (now tree)) × (mark ≡ code ID → number-at (now tree) (at + 2) < 3) × (Stands here st) × (16 * st .locals ≤ length (now locals)) ⌝ }
+    requires { ⌜ (at + 10 ≤ length (now tree)) × (mark ≡ code ID → number-at (now tree) (at + 2) < 3) × (Stands here st)
+        × (16 * st .locals ≤ length (now locals)) ⌝ }
     requires { ⌜ (Kept (st .frames) (now frames) (st .captures) (now captures)) × (16 * limits .«max_captures» ≤ length (now captures)) ⌝ }
-    ensures { λ r. ⌜ NameAnalyzed r (now (tree .entry)) (now (out .entry)) (now (out .exit)) (now (diagnostics .entry)) (now (diagnostics .exit)) (now (locals .entry)) (now (locals .exit)) (now (frames .entry)) (now (captures .entry)) (now (captures .exit)) limits st at mark here ⌝ }
+    ensures { λ r. ⌜ NameAnalyzed r (was tree) (was out) (is out) (was diagnostics) (is diagnostics) (was locals)
+        (is locals) (was frames) (was captures) (is captures) limits st at mark here ⌝ }
 {
-    let next = at + 10;
+    let next = at + offsets::VA_SIZE;
     let used = use_name(tree, out, diagnostics, locals, st, at, mark, here);
     match used {
         Used::Slot(after, id) => {
             let emitted = emit_slot(out, frames, captures, limits, after, at, id);
-            behind(emitted, next)
+            walked_to(emitted, next)
         }
-        Used::Done(step) => behind(step, next),
+        Used::Done(step) => walked_to(step, next),
     }
 }

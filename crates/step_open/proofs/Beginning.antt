@@ -4,6 +4,7 @@ use mathlib.Core.Bool.{Bool, true, false}
 use mathlib.Core.List.{List, _∷_}
 use mathlib.Core.Path.{_≡_, refl, sym, ap, subst, _∙_}
 use native.Mathlib.Omega.{arith}
+use borrow.Author.Needs.{needs}
 use lib.ListN.{length}
 use Rattle.rules.specs.Outcome.{Outcome, ok, refuse, _>>=_, choose}
 use Rattle.rules.specs.Frames.{ClosureFrame, new-frame, top}
@@ -12,9 +13,9 @@ use Rattle.rules.specs.Scoping as scoping
 use Rattle.rules.specs.Writing as rules-writing
 use Rattle.rules.specs.Walk as walk
 use Rattle.rules.proofs.After.{After, fine, after-ok, after-bind, after-need}
-use Rattle.table_frames.specs.Meaning.{number}
+use Rattle.rules.proofs.Outcomes.{bind-assoc}
+use Rattle.table_rows.specs.Entries.{number}
 use Rattle.resolver.specs.Meaning.{frame-of, frames-of}
-use Rattle.bytes_skip.proofs.Binding.{bind-assoc}
 use Rattle.law_runs.specs.Run.{run-define-binds, run-define-params}
 use Rattle.law_runs.specs.Steps.{begun-local, begun-function, begun-object}
 use Rattle.state.specs.Seen.{Buffers, buffers, stack, seen, limits-of, Fit, Fits}
@@ -26,11 +27,14 @@ use Rattle.state.specs.declared.Step.{Step}
 use Rattle.state.specs.declared.Step.the-variants.{Ok, Refused}
 use Rattle.state.specs.declared.Walked.{Walked}
 use Rattle.state.specs.declared.Walked.the-variants as walked-as
+use Rattle.state.proofs.Changing.{marks-to}
+use Rattle.state.proofs.Fitting.{fit-values}
 use Rattle.step_frame.specs.Answers.{FrameOpened}
 use Rattle.step_locals.specs.Answers.{DefinedThis}
 use Rattle.step_place.proofs.Laws.{outermost-so}
 use Rattle.step_declare.specs.Answers.{Fitting, BindsDefined, ParamsDefined}
-use Rattle.step_declare.proofs.Turns.{length-frames, pushed-open}
+use Rattle.resolver.proofs.Laws.{length-frames}
+use Rattle.step_declare.proofs.Turns.{pushed-open}
 use Rattle.step_open.specs.Answers.{Opening, LocalBegun, FunctionBegun, ObjectEntered, opened-object, ObjectOpened, ObjectBegun}
 
 -- A step and a walk after it
@@ -158,54 +162,23 @@ module _ {s diagnostics locals frames frames₁ : List ℕ} {l : Limits} {st : A
           then-walks steps (λ L st. run-define-params s L levels n (at + 10) depth st) st₁ e refl (defined .defined levels read out captures references (took-fit steps st₁ e));
     }
 
+-- what answers every need of the two functions
+pub ruleset beginning-needs = (needs, opened-framed, opened-fitting, local-begun, local-refused, function-begun, function-refused)
+
 -- `OB`
 
--- the state with other marks
-abbrev marked : AnalysisStack → (self-used super-used dollar-used : Bool) → AnalysisStack
-marked st a b c = record {
-  locals = st .locals;
-  frames = st .frames;
-  captures = st .captures;
-  references = st .references;
-  out = st .out;
-  diagnostics = st .diagnostics;
-  «self_used» = a;
-  «super_used» = b;
-  «dollar_used» = c;
-  taint = st .taint;
-  errored = st .errored;
-  rounds = st .rounds;
-}
-
-marked-fit : (st : AnalysisStack) (a b c : Bool) (l : Limits) (buffers : Buffers) → Fit l buffers st → Fit l buffers (marked st a b c)
-marked-fit st a b c l buffers f = record {
-  locals-long = f .locals-long;
-  frames-long = f .frames-long;
-  captures-long = f .captures-long;
-  references-long = f .references-long;
-  few-locals = f .few-locals;
-  few-frames = f .few-frames;
-  few-captures = f .few-captures;
-  few-references = f .few-references;
-  out-long = f .out-long;
-  diagnostics-long = f .diagnostics-long;
-  frames-kept = f .frames-kept;
-  first-there = f .first-there;
-  first-rises = f .first-rises;
-}
-
-pub entered-another : (st : AnalysisStack) (here : Place) → here .«in_object» ≡ true → ObjectEntered (marked st false false (st .«dollar_used»)) st here
+pub entered-another : (st : AnalysisStack) (here : Place) → here .«in_object» ≡ true → ObjectEntered (marks-to false false (st .«dollar_used») st) st here
 unfolding stack walk.entered-use rules.with-object-use choose
 entered-another st here e = record {
   same = λ b. rw (outermost-so here, e);
-  fit = marked-fit st false false (st .«dollar_used»);
+  fit = λ l b f. fit-values f;
 }
 
-pub entered-first : (st : AnalysisStack) (here : Place) → here .«in_object» ≡ false → ObjectEntered (marked st false false false) st here
+pub entered-first : (st : AnalysisStack) (here : Place) → here .«in_object» ≡ false → ObjectEntered (marks-to false false false st) st here
 unfolding stack walk.entered-use rules.with-object-use choose
 entered-first st here e = record {
   same = λ b. rw (outermost-so here, e);
-  fit = marked-fit st false false false;
+  fit = λ l b f. fit-values f;
 }
 
 module _ {st entered : AnalysisStack} {here : Place} (enters : ObjectEntered entered st here)
@@ -304,3 +277,6 @@ module _ {r₁ : Step} {locals locals₁ frames frames₁ : List ℕ} {l : Limit
           let walks = then-walks steps (λ L st. run-define-binds s L levels n binds (here .depth) st) inside e refl (defined .defined levels read out captures references (took-fit steps inside e)) in
           record { same = λ L is. walks .same L is ∙ begun-as L s levels n at binds (place-of here) _; fit = walks .fit };
     }
+
+-- what answers the needs of the two functions
+pub ruleset object-needs = (needs, object-opened, object-refused, object-framed, object-fitting, object-begun, begun-refused)

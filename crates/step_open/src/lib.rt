@@ -2,7 +2,9 @@
 ghost use Prim.Native.Nat.{_+_, _*_, _<_, _≤_};
 ghost use lib.ListN.{length};
 ghost use Rattle.step_declare.specs.Answers.{Binds-there, Params-there, Fitting};
+ghost use Rattle.state.specs.Seen.{was, is};
 ghost use Rattle.step_open.specs.Answers.{Opening, ValueOpened, LocalBegun, FunctionBegun, ObjectEntered, ObjectOpened, ObjectBegun};
+use bytes_records::offsets;
 use state::AnalysisStack;
 use state::Limits;
 use state::Place;
@@ -17,7 +19,7 @@ use value_depths::AnalysisResult;
 // The frame of a spec's value, which depends on nothing yet.
 pub fn open_value(frames: &mut [u32], limits: Limits, st: AnalysisStack, at: usize) -> Step
     requires { ⌜ 16 * limits .«max_frames» ≤ length (now frames) ⌝ }
-    ensures { λ r. ⌜ ValueOpened r (now (frames .entry)) (now (frames .exit)) limits st at ⌝ }
+    ensures { λ r. ⌜ ValueOpened r (was frames) (is frames) limits st at ⌝ }
 {
     let none = AnalysisResult::no_dependence();
     let mut clean = st;
@@ -37,8 +39,10 @@ pub fn begin_local(
     n: u32,
     depth: u32,
 ) -> Walked
-    requires { ⌜ (Binds-there (now tree) n (at + 6)) × (at + 6 ≤ length (now tree)) × (length (now tree) < 4294967296) × (Fitting limits (now diagnostics) (now locals) (now frames) st) ⌝ }
-    ensures { λ r. ⌜ LocalBegun r (now (tree .entry)) (now (diagnostics .entry)) (now (diagnostics .exit)) (now (locals .entry)) (now (locals .exit)) (now (frames .entry)) (now (frames .exit)) limits st at n depth ⌝ }
+    requires { ⌜ (Binds-there (now tree) n (at + 6)) × (at + 6 ≤ length (now tree)) × (length (now tree) < 4294967296) ×
+        (Fitting limits (now diagnostics) (now locals) (now frames) st) ⌝ }
+    ensures { λ r. ⌜ LocalBegun r (was tree) (was diagnostics) (is diagnostics) (was locals) (is locals) (was frames)
+        (is frames) limits st at n depth ⌝ }
 {
     let opened = open_frame(frames, limits, st, at, true);
     match opened {
@@ -50,7 +54,7 @@ pub fn begin_local(
                 frames,
                 limits,
                 inside,
-                at + 6,
+                at + offsets::LO_SIZE,
                 n,
                 depth,
             )
@@ -71,8 +75,10 @@ pub fn begin_function(
     n: u32,
     depth: u32,
 ) -> Walked
-    requires { ⌜ (Params-there (now tree) n (at + 10)) × (at + 10 ≤ length (now tree)) × (length (now tree) < 4294967296) × (Fitting limits (now diagnostics) (now locals) (now frames) st) ⌝ }
-    ensures { λ r. ⌜ FunctionBegun r (now (tree .entry)) (now (diagnostics .entry)) (now (diagnostics .exit)) (now (locals .entry)) (now (locals .exit)) (now (frames .entry)) (now (frames .exit)) limits st at n depth ⌝ }
+    requires { ⌜ (Params-there (now tree) n (at + 10)) × (at + 10 ≤ length (now tree)) ×
+        (length (now tree) < 4294967296) × (Fitting limits (now diagnostics) (now locals) (now frames) st) ⌝ }
+    ensures { λ r. ⌜ FunctionBegun r (was tree) (was diagnostics) (is diagnostics) (was locals) (is locals) (was frames)
+        (is frames) limits st at n depth ⌝ }
 {
     let opened = open_frame(frames, limits, st, at, true);
     match opened {
@@ -84,7 +90,7 @@ pub fn begin_function(
                 frames,
                 limits,
                 inside,
-                at + 10,
+                at + offsets::FN_SIZE,
                 n,
                 depth,
             )
@@ -117,7 +123,7 @@ fn open_object(
     here: Place,
 ) -> Step
     requires { ⌜ (at < 4294967296) × (Opening limits (now locals) (now frames) st) ⌝ }
-    ensures { λ r. ⌜ ObjectOpened r (now (locals .entry)) (now (locals .exit)) (now (frames .entry)) (now (frames .exit)) limits st at here ⌝ }
+    ensures { λ r. ⌜ ObjectOpened r (was locals) (is locals) (was frames) (is frames) limits st at here ⌝ }
 {
     let entered = enter_object(st, here);
     let opened = open_frame(frames, limits, entered, at, true);
@@ -140,8 +146,10 @@ pub fn begin_object(
     n: u32,
     here: Place,
 ) -> Walked
-    requires { ⌜ (Binds-there (now tree) n binds) × (at ≤ length (now tree)) × (length (now tree) < 4294967296) × (Fitting limits (now diagnostics) (now locals) (now frames) st) ⌝ }
-    ensures { λ r. ⌜ ObjectBegun r (now (tree .entry)) (now (diagnostics .entry)) (now (diagnostics .exit)) (now (locals .entry)) (now (locals .exit)) (now (frames .entry)) (now (frames .exit)) limits st at binds n here ⌝ }
+    requires { ⌜ (Binds-there (now tree) n binds) × (at ≤ length (now tree)) × (length (now tree) < 4294967296) ×
+        (Fitting limits (now diagnostics) (now locals) (now frames) st) ⌝ }
+    ensures { λ r. ⌜ ObjectBegun r (was tree) (was diagnostics) (is diagnostics) (was locals) (is locals) (was frames)
+        (is frames) limits st at binds n here ⌝ }
 {
     let opened = open_object(locals, frames, limits, st, at, here);
     match opened {

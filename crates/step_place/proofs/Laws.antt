@@ -1,17 +1,18 @@
 -- Places, and what functions are called. Assumes nothing.
-use Prim.Native.Nat.{ℕ, zero, suc, _+_}
-use mathlib.Core.Bool.{Bool, true, false, not, false≢true}
+use Prim.Native.Nat.{ℕ, suc, _+_}
+use mathlib.Core.Bool.{Bool, true, false, not}
 use mathlib.Core.List.{List}
-use mathlib.Core.Path.{_≡_, refl, sym}
+use mathlib.Core.Path.{_≡_, refl}
 use native.Mathlib.Omega.{arith}
 use borrow.Author.Tests.{eq-eqb, ne-eqb}
 use Rattle.rules.specs.Outcome.{choose, given}
-use Rattle.rules.specs.Numbers.{code, code-at, number-at, is-set}
+use Rattle.rules.specs.Numbers.{code, code-at, number-at}
 use Rattle.rules.specs.Walk as walk
 use Rattle.law_runs.specs.Steps.{bind-naming-at, head-naming-at}
 use Rattle.state.specs.Walks.{id-if, place-of, naming-of}
 use Rattle.state.specs.declared.Place.{Place}
 use Rattle.state.specs.declared.Naming.the-variants.{Unnamed, AsBind, AsMethod, AsComputedMethod}
+use Rattle.rules.proofs.Flags.{set-of, unset-of}
 use Rattle.step_place.specs.Answers.{Deeper, InObject}
 
 -- Places
@@ -43,27 +44,6 @@ pub outermost-so : (h : Place) → walk.is-outermost (place-of h) ≡ not (h .«
 unfolding place-of walk.is-outermost
 outermost-so h = alias-outermost (h .«in_object») (h .«dollar_alias» .0)
 
--- Flags
-
-pub not-set : (n : ℕ) → n ≡ 0 → is-set n ≡ false
-unfolding is-set
-not-set n e = rw e
-
-pub set-so : (n : ℕ) → (n ≡ 0 → ⊥) → is-set n ≡ true
-unfolding is-set
-set-so zero ne = absurd (ne refl)
-set-so (suc n) ne = refl
-
-pub is-zero : (n : ℕ) → is-set n ≡ false → n ≡ 0
-unfolding is-set
-is-zero zero e = refl
-is-zero (suc n) e = absurd (false≢true (sym e))
-
-pub not-zero : (n : ℕ) → is-set n ≡ true → n ≡ 0 → ⊥
-unfolding is-set
-not-zero zero e z = false≢true e
-not-zero (suc n) e z = omega arith
-
 -- Names of functions
 
 module _ (s : List ℕ) (p : ℕ) where
@@ -77,14 +57,14 @@ module _ (s : List ℕ) (p : ℕ) where
 
   pub head-unnamed : (flag : ℕ) → flag ≡ number-at s (p + 22) → flag ≡ 0 → naming-of Unnamed ≡ head-naming-at s p
   unfolding head-naming-at naming-of choose
-  head-unnamed flag e z = rw (← e, not-set flag z)
+  head-unnamed flag e z = rw (← e, unset-of z)
 
   pub head-method : (flag kind name span : ℕ) → flag ≡ number-at s (p + 22) → (flag ≡ 0 → ⊥) → kind ≡ number-at s (p + 2) → kind ≡ 0
       → name ≡ number-at s (p + 6) → span ≡ number-at s (p + 10) → naming-of (AsMethod name span) ≡ head-naming-at s p
   unfolding head-naming-at naming-of choose
-  head-method flag kind name span e nz f z g h = rw (← e, set-so flag nz, ← f, not-set kind z, ← g, ← h)
+  head-method flag kind name span e nz f z g h = rw (← e, set-of nz, ← f, unset-of z, ← g, ← h)
 
   pub head-computed : (flag kind span : ℕ) → flag ≡ number-at s (p + 22) → (flag ≡ 0 → ⊥) → kind ≡ number-at s (p + 2) → (kind ≡ 0 → ⊥)
       → span ≡ number-at s (p + 10) → naming-of (AsComputedMethod span) ≡ head-naming-at s p
   unfolding head-naming-at naming-of choose
-  head-computed flag kind span e nz f nk g = rw (← e, set-so flag nz, ← f, set-so kind nk, ← g)
+  head-computed flag kind span e nz f nk g = rw (← e, set-of nz, ← f, set-of nk, ← g)

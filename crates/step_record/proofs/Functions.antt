@@ -19,11 +19,13 @@ use Rattle.state.specs.declared.Limits.{Limits}
 use Rattle.state.specs.declared.Naming.{Naming}
 use Rattle.state.specs.declared.Step.{Step}
 use Rattle.state.specs.declared.Step.the-variants.{Ok, Refused}
+use Rattle.state.proofs.Changing.{out-to}
+use Rattle.state.proofs.Fitting.{fit-back}
 use Rattle.step_write.specs.Answers.{level-of, Emitted, Reported}
 use Rattle.step_write.specs.declared.Level.the-variants.{Warning}
 use Rattle.step_write.proofs.Laws.{limits-same}
+use Rattle.step_write.proofs.Emitting.{emitted-steps}
 use Rattle.step_record.specs.Answers.{TakenBack, IdentityNamed, OtherNamed, FunctionNamed}
-use Rattle.step_record.proofs.Recording.{emit-steps}
 
 -- Output taken back
 
@@ -37,42 +39,12 @@ module _ (st : AnalysisStack) (start : ℕ) where
     };
   }
 
-  abbrev pub back : AnalysisStack
-  back = record {
-    locals = st .locals;
-    frames = st .frames;
-    captures = st .captures;
-    references = st .references;
-    out = start;
-    diagnostics = st .diagnostics;
-    «self_used» = st .«self_used»;
-    «super_used» = st .«super_used»;
-    «dollar_used» = st .«dollar_used»;
-    taint = st .taint;
-    errored = st .errored;
-    rounds = st .rounds;
-  }
-
-  pub so-far : start < st .out → TakenBack back st start
+  pub so-far : start < st .out → TakenBack (out-to start st) st start
   unfolding stack rules.taken-back rules.with-out rules.with-sink
   so-far h = record {
     becomes = λ l b f. record {
       same = ap (λ bytes. rules.with-out bytes (stack b st)) (sym (take-take start (st .out) (b .out) (omega arith)));
-      fit = record {
-        locals-long = f .locals-long;
-        frames-long = f .frames-long;
-        captures-long = f .captures-long;
-        references-long = f .references-long;
-        few-locals = f .few-locals;
-        few-frames = f .few-frames;
-        few-captures = f .few-captures;
-        few-references = f .few-references;
-        out-long = omega (arith, f .out-long);
-        diagnostics-long = f .diagnostics-long;
-        frames-kept = f .frames-kept;
-        first-there = f .first-there;
-        first-rises = f .first-rises;
-      };
+      fit = fit-back f (omega arith);
     };
   }
 
@@ -117,7 +89,7 @@ module _ (out : List ℕ) {diagnostics diagnostics′ : List ℕ} (st : Analysis
     steps = λ kept l ls fs cs rs f.
         let b₁ = buffers out diagnostics′ ls fs cs rs in
         let became = taken .becomes l b₁ (rw is at (reported .fit l out ls fs cs rs f)) in
-        let wrote = emit-steps IY l diagnostics′ ls fs cs rs refl emitted (became .fit) in
+        let wrote = emitted-steps emitted IY refl l diagnostics′ ls fs cs rs (became .fit) in
         record {
           same = λ limits at.
               wrote .same limits (at ∙ sym (limits-same l out out diagnostics diagnostics′ refl size))
@@ -133,7 +105,7 @@ pub other-named : {r : Step} {out out′ : List ℕ} {st : AnalysisStack} {place
 unfolding walk.finish-function choose mark-bytes code
 other-named {r} {out} {out′} {st} {place} {ns} kept naming emitted numbered = record {
   steps = λ span start l ds ls fs cs rs f.
-      let wrote = emit-steps FN l ds ls fs cs rs refl emitted f in
+      let wrote = emitted-steps emitted FN refl l ds ls fs cs rs f in
       record {
         same = λ limits at.
             wrote .same limits at ∙ ap (λ (k : List ℕ). writing.emit limits place FN k (stack (buffers out ds ls fs cs rs) st)) numbered;

@@ -1,7 +1,7 @@
 // The record of an object, and that of a function, or of one which gives its argument.
 ghost use mathlib.Core.Path.{_≡_};
 ghost use Rattle.rules.specs.Walk.{naming-span};
-ghost use Rattle.state.specs.Seen.{span-of};
+ghost use Rattle.state.specs.Seen.{span-of, was, is};
 ghost use Rattle.state.specs.Walks.{naming-of};
 ghost use Rattle.step_record.specs.Answers.{ObjectLeft, TakenBack, IdentityNamed, OtherNamed, FunctionNamed};
 use state::AnalysisStack;
@@ -33,7 +33,8 @@ pub struct FunctionEnd {
 
 // An object's record; the marks are again those of the object around it, but for `$`'s.
 pub fn leave_object(out: &mut [u8], st: AnalysisStack, at: usize, object: ObjectEnd) -> Step
-    ensures { λ r. ⌜ ObjectLeft r (now (out .entry)) (now (out .exit)) st at (object .outermost) (object .«self_used») (object .«super_used») (object .kept) (object .assertions) (object .values) (object .«is_static») ⌝ }
+    ensures { λ r. ⌜ ObjectLeft r (was out) (is out) st at (object .outermost) (object .«self_used»)
+        (object .«super_used») (object .kept) (object .assertions) (object .values) (object .«is_static») ⌝ }
 {
     let dollar = object.outermost & st.dollar_used;
     let this = (st.self_used | st.super_used) | dollar;
@@ -86,7 +87,7 @@ fn name_identity(
     start: usize,
     naming: Naming,
 ) -> Step
-    ensures { λ r. ⌜ IdentityNamed r (now (out .entry)) (now (out .exit)) (now (diagnostics .entry)) (now (diagnostics .exit)) st at span start naming ⌝ }
+    ensures { λ r. ⌜ IdentityNamed r (was out) (is out) (was diagnostics) (is diagnostics) st at span start naming ⌝ }
 {
     let shown = naming_span(naming, span);
     let reported = report(diagnostics, st, at, Level::Warning, 10, 0, shown);
@@ -98,7 +99,7 @@ fn name_identity(
 
 // The function's record, with its name if it has one.
 fn name_other(out: &mut [u8], st: AnalysisStack, at: usize, kept: u32, naming: Naming) -> Step
-    ensures { λ r. ⌜ OtherNamed r (now (out .entry)) (now (out .exit)) st at kept naming ⌝ }
+    ensures { λ r. ⌜ OtherNamed r (was out) (is out) st at kept naming ⌝ }
 {
     match naming {
         Naming::Unnamed => emit(out, st, at, b"FN", &[0, 0, kept]),
@@ -118,7 +119,8 @@ pub fn name_function(
     naming: Naming,
     gives: bool,
 ) -> Step
-    ensures { λ r. ⌜ FunctionNamed r (now (out .entry)) (now (out .exit)) (now (diagnostics .entry)) (now (diagnostics .exit)) st at (function .span) (function .start) (function .kept) naming gives ⌝ }
+    ensures { λ r. ⌜ FunctionNamed r (was out) (is out) (was diagnostics) (is diagnostics) st at (function .span)
+        (function .start) (function .kept) naming gives ⌝ }
 {
     if gives {
         return name_identity(

@@ -1,9 +1,9 @@
 -- Laws of a local's analysis and of the references that are kept. Assumes nothing.
 use Prim.Native.Nat.{ℕ, _+_, _-_, _≤_, _<_}
 use mathlib.Core.List.{List}
-use mathlib.Core.Path.{_≡_, refl, sym, ap, _∙_}
+use mathlib.Core.Path.{_≡_, sym, ap, _∙_}
 use native.Mathlib.Omega.{arith}
-use lib.ListN.{length, length-map}
+use lib.ListN.{length}
 use lib.Dec.{leb}
 use borrow.Author.Tests.{le-leb, lt-leb}
 use Rattle.rules.specs.Outcome.{ok, refuse, _>>=_, need}
@@ -12,21 +12,22 @@ use Rattle.rules.specs.Settling.{Reference}
 use Rattle.rules.specs.State as state
 use Rattle.rules.specs.State.{with-locals, with-references}
 use Rattle.rules.specs.Scoping as scoping
-use Rattle.table_rows.specs.Rows.{rows}
-use Rattle.table_rows.proofs.Laws.{length-rows}
 use Rattle.value_depths.specs.Meaning.{result}
 use Rattle.value_local.specs.Meaning.{local}
 use Rattle.table_locals.specs.Meaning.{locals-of}
 use Rattle.table_locals.specs.Tables.{PutLocal}
 use Rattle.value_local.specs.declared.LocalDefinition.{LocalDefinition}
-use Rattle.table_references.specs.Meaning.{reference-of-row, references-of}
+use Rattle.table_references.specs.Meaning.{references-of}
 use Rattle.table_references.specs.Tables.{AllKept, with-noted, cleared}
 use Rattle.state.specs.Seen.{buffers, stack, limits-of}
 use Rattle.state.specs.declared.AnalysisStack.{AnalysisStack}
 use Rattle.state.specs.declared.Limits.{Limits}
 use Rattle.state.specs.declared.Step.the-variants.{Ok, Refused}
+use Rattle.state.proofs.Changing.{references-to}
+use Rattle.state.proofs.Fitting.{fit-names, fit-entries}
 use Rattle.step_locals.specs.Answers.{FirstInFrame}
-use Rattle.step_touch.proofs.Laws.{with-values, fits-still, stored}
+use Rattle.step_touch.proofs.Laws.{stored}
+use Rattle.table_references.proofs.Keeping.{length-references}
 use Rattle.step_retain.specs.Answers.{SetAnalysis, KeptReferences}
 
 -- The analysis
@@ -38,14 +39,10 @@ module _ (locals : List ℕ) (st : AnalysisStack) (id : ℕ) (l : LocalDefinitio
   analysed put is = record {
     same = λ out diagnostics frames captures references.
         ap (λ (ls : List rules.LocalDefinition). with-locals ls (stack (buffers out diagnostics locals frames captures references) st)) (stored locals st id l inside read (rules.with-analysis (result (st .taint))) put is);
-    fit = λ limits out diagnostics frames captures references fit. fits-still (st .taint) (st .references) (put .size) refl (fit .few-references) fit;
+    fit = λ limits out diagnostics frames captures references fit. fit-entries fit (put .size);
   }
 
 -- The references that are kept
-
-length-references : (n : ℕ) (t : List ℕ) → length (references-of n t) ≡ n
-unfolding references-of
-length-references n t = length-map (rows n t) reference-of-row ∙ length-rows n t
 
 module _ (limits : state.Limits) (place id first : ℕ) (st : state.AnalysisStack) (is : first ≡ scoping.first-in-frame st) where
   abbrev refs : List Reference
@@ -69,7 +66,7 @@ module _ (locals locals′ references references′ frames : List ℕ) (limits :
 
   pub references-kept : (count : ℕ) → length locals′ ≡ length locals → length references′ ≡ length references
       → AllKept locals locals′ references references′ id first (first + (st .locals - first)) (st .references) (limits .«max_references») count
-      → KeptReferences (Ok (with-values (st .taint) count st)) locals locals′ references references′ frames limits st place id
+      → KeptReferences (Ok (references-to count st)) locals locals′ references references′ frames limits st place id
   unfolding stack limits-of with-references with-locals
   references-kept count size size′ kept =
       let refs-are : references-of count references′ ≡ with-noted id first (locals-of (st .locals) locals) (references-of (st .references) references) = rw all at (kept .references-are) in
@@ -80,7 +77,7 @@ module _ (locals locals′ references references′ frames : List ℕ) (limits :
             ap (λ (refs : List Reference). ok (with-references refs (with-locals (locals-of (st .locals) locals′) S))) refs-are
             ∙ ap (λ (ls : List rules.LocalDefinition). ok (with-references (with-noted id first (locals-of (st .locals) locals) (references-of (st .references) references)) (with-locals ls S))) locals-are
             ∙ sym (keeps-all (limits-of limits out diagnostics) place id first S (is .same out diagnostics locals captures references) (omega (arith, kept .fits, length-references count references′, ap length refs-are)));
-        fit = λ out diagnostics captures fit. fits-still (st .taint) count size size′ (kept .fits) fit;
+        fit = λ out diagnostics captures fit. fit-names fit size size′ (fit .few-locals) (kept .fits) (fit .first-there);
       }
 
   pub no-room-for-references : limits .«max_references» < length (with-noted id first (locals-of (first + (st .locals - first)) locals) (references-of (st .references) references))

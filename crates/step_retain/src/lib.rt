@@ -4,8 +4,9 @@ ghost use Prim.Native.Nat.{ℕ, _*_, _<_, _≤_};
 ghost use lib.ListN.{length};
 ghost use Rattle.rules.specs.Scoping.{is-at};
 ghost use Rattle.value_local.specs.Meaning.{binding};
-ghost use Rattle.table_frames.specs.Meaning.{number};
-ghost use Rattle.step_retain.specs.Answers.{IsKept, SetAnalysis, KeptReferences};
+ghost use Rattle.table_rows.specs.Entries.{number};
+ghost use Rattle.state.specs.Seen.{was, is};
+ghost use Rattle.step_retain.specs.Answers.{Keepable, IsKept, SetAnalysis, KeptReferences};
 use state::AnalysisStack;
 use state::Limits;
 use state::Step;
@@ -29,7 +30,7 @@ fn is_at(place: usize, is_record: bool, at: u32) -> bool
 // Whether the next of the frame's locals to be kept is that of the record at this place.
 pub fn is_kept(locals: &[u32], frames: &[u32], st: AnalysisStack, place: usize, next: u32) -> bool
     requires { ⌜ (16 * st .locals ≤ length (now locals)) × (16 * st .frames ≤ length (now frames)) ⌝ }
-    ensures { λ r. ⌜ IsKept r (now (locals .entry)) (now (frames .entry)) st place next ⌝ }
+    ensures { λ r. ⌜ IsKept r (was locals) (was frames) st place next ⌝ }
 {
     let first = first_in_frame(frames, st);
     if st.locals <= first {
@@ -45,7 +46,7 @@ pub fn is_kept(locals: &[u32], frames: &[u32], st: AnalysisStack, place: usize, 
 // The local's analysis is that of the present value.
 pub fn set_analysis(locals: &mut [u32], st: AnalysisStack, id: LocalId) -> AnalysisStack
     requires { ⌜ (16 * st .locals ≤ length (now locals)) × (id .0 < st .locals) ⌝ }
-    ensures { λ r. ⌜ SetAnalysis r (now (locals .entry)) (now (locals .exit)) st (id .0) ⌝ }
+    ensures { λ r. ⌜ SetAnalysis r (was locals) (is locals) st (id .0) ⌝ }
 {
     let l = local_at(locals, id);
     let taint = st.taint;
@@ -54,7 +55,7 @@ pub fn set_analysis(locals: &mut [u32], st: AnalysisStack, id: LocalId) -> Analy
 }
 
 // The references that a kept spec has noted, where R allows.
-pub fn keep_references(
+pub fn keep_spec_references(
     locals: &mut [u32],
     references: &mut [u32],
     frames: &[u32],
@@ -63,8 +64,8 @@ pub fn keep_references(
     place: usize,
     id: LocalId,
 ) -> Step
-    requires { ⌜ (16 * st .locals ≤ length (now locals)) × (16 * st .frames ≤ length (now frames)) × (16 * limits .«max_references» ≤ length (now references)) × (st .references ≤ limits .«max_references») × ((f : ℕ) → f < st .frames → number (now frames) f 1 ≤ st .locals) ⌝ }
-    ensures { λ r. ⌜ KeptReferences r (now (locals .entry)) (now (locals .exit)) (now (references .entry)) (now (references .exit)) (now (frames .entry)) limits st place (id .0) ⌝ }
+    requires { ⌜ Keepable limits (now locals) (now frames) (now references) st ⌝ }
+    ensures { λ r. ⌜ KeptReferences r (was locals) (is locals) (was references) (is references) (was frames) limits st place (id .0) ⌝ }
 {
     let first = first_in_frame(frames, st);
     let n = st.locals - first;

@@ -1,7 +1,8 @@
--- A frame that closes, and the record behind its shape: one step after another is the rules' step. Assumes nothing.
+-- A frame that closes, and the record after its shape: one step after another is the rules' step. Assumes nothing.
 use Prim.Native.Nat.{ℕ}
 use mathlib.Core.List.{List, [], _∷_}
 use mathlib.Core.Path.{_≡_, refl, sym, ap, _∙_}
+use borrow.Author.Needs.{needs}
 use lib.ListN.{length, getD}
 use Rattle.rules.specs.Outcome.{Outcome, ok, refuse, _>>=_}
 use Rattle.rules.specs.Numbers.{Mark, AR, FV, code, mark-bytes}
@@ -19,7 +20,7 @@ use Rattle.state.specs.declared.Walked.the-variants as walked-as
 use Rattle.step_write.specs.Answers.{Emitted}
 use Rattle.step_frame.specs.Answers.{FrameClosed}
 use Rattle.step_write.proofs.Laws.{limits-same}
-use Rattle.step_emit.specs.Answers.{behind}
+use Rattle.state.specs.Converting.{walked-to}
 use Rattle.step_emit.proofs.Laws.{Placed, placed}
 use Rattle.step_shape.specs.Answers.{ArrayClosed, ValueClosed, AssertionsClosed}
 
@@ -74,7 +75,7 @@ module _ (out out₁ frames captures captures′ : List ℕ) (st : AnalysisStack
 -- The answers
 
 module _ (out out₁ frames captures captures′ : List ℕ) (st : AnalysisStack) (place next : ℕ) (c : Step) (closed : FrameClosed c out out₁ frames captures captures′ st place) where
-  pub assertions-closed : (r : Walked) → r ≡ behind next c → AssertionsClosed r out out₁ frames captures captures′ st place next
+  pub assertions-closed : (r : Walked) → r ≡ walked-to next c → AssertionsClosed r out out₁ frames captures captures′ st place next
   assertions-closed r ends = record {
     walks = λ l diagnostics locals references f. assertions-walk out out₁ frames captures captures′ st place next l diagnostics locals references f c r closed (placed next ends);
   }
@@ -92,7 +93,7 @@ module _ (out out₁ frames captures captures′ : List ℕ) (st : AnalysisStack
       walks = λ l diagnostics locals references f. without-room out out₁ frames captures captures′ st place next l diagnostics locals references f FV [] number at (rw not at closed);
     }
 
-  module _ (out′ : List ℕ) (after : AnalysisStack) (e : Step) (r : Walked) (goes : c ≡ Ok after) (long : length out₁ ≡ length out) (ends : r ≡ behind next e) where
+  module _ (out′ : List ℕ) (after : AnalysisStack) (e : Step) (r : Walked) (goes : c ≡ Ok after) (long : length out₁ ≡ length out) (ends : r ≡ walked-to next e) where
     pub array-closed : (n : ℕ) → Emitted e out₁ out′ after place (0x41 ∷ 0x52 ∷ []) (n ∷ []) → ArrayClosed r out out′ frames captures captures′ st place n next
     unfolding closed-array closed-with mark-bytes code
     array-closed n emitted = record {
@@ -106,3 +107,6 @@ module _ (out out₁ frames captures captures′ : List ℕ) (st : AnalysisStack
       walks = λ l diagnostics locals references f.
           with-record out out₁ frames captures captures′ st place next l diagnostics locals references f FV (0x46 ∷ 0x56 ∷ []) [] out′ after e r long refl (rw goes at closed) emitted (placed next ends);
     }
+
+-- what answers every need of the two functions that close with a record
+pub ruleset closing-needs = (needs, array-closed, array-refused, value-closed, value-refused)

@@ -1,10 +1,11 @@
-// The frames of arrays, field values and assertions closed: the frame's shape, and the record behind it.
+// The frames of arrays, field values and assertions closed: the frame's shape, and the record after it.
 ghost use Rattle.resolver.specs.Kept.{Kept};
+ghost use Rattle.state.specs.Seen.{was, is};
 ghost use Rattle.step_shape.specs.Answers.{ArrayClosed, ValueClosed, AssertionsClosed};
 use state::AnalysisStack;
 use state::Step;
 use state::Walked;
-use step_emit::behind;
+use state::walked_to;
 use step_frame::close_frame;
 use step_write::emit;
 
@@ -19,13 +20,13 @@ pub fn close_array(
     next: usize,
 ) -> Walked
     requires { ⌜ Kept (st .frames) (now frames) (st .captures) (now captures) ⌝ }
-    ensures { λ r. ⌜ ArrayClosed r (now (out .entry)) (now (out .exit)) (now (frames .entry)) (now (captures .entry)) (now (captures .exit)) st at n next ⌝ }
+    ensures { λ r. ⌜ ArrayClosed r (was out) (is out) (was frames) (was captures) (is captures) st at n next ⌝ }
 {
     let closed = close_frame(out, frames, captures, st, at);
     match closed {
         Step::Ok(after) => {
             let written = emit(out, after, at, b"AR", &[n]);
-            behind(written, next)
+            walked_to(written, next)
         }
         Step::Refused(why, place) => Walked::Refused(why, place),
     }
@@ -41,13 +42,13 @@ pub fn close_value(
     next: usize,
 ) -> Walked
     requires { ⌜ Kept (st .frames) (now frames) (st .captures) (now captures) ⌝ }
-    ensures { λ r. ⌜ ValueClosed r (now (out .entry)) (now (out .exit)) (now (frames .entry)) (now (captures .entry)) (now (captures .exit)) st at next ⌝ }
+    ensures { λ r. ⌜ ValueClosed r (was out) (is out) (was frames) (was captures) (is captures) st at next ⌝ }
 {
     let closed = close_frame(out, frames, captures, st, at);
     match closed {
         Step::Ok(after) => {
             let written = emit(out, after, at, b"FV", &[]);
-            behind(written, next)
+            walked_to(written, next)
         }
         Step::Refused(why, place) => Walked::Refused(why, place),
     }
@@ -63,8 +64,8 @@ pub fn close_assertions(
     next: usize,
 ) -> Walked
     requires { ⌜ Kept (st .frames) (now frames) (st .captures) (now captures) ⌝ }
-    ensures { λ r. ⌜ AssertionsClosed r (now (out .entry)) (now (out .exit)) (now (frames .entry)) (now (captures .entry)) (now (captures .exit)) st at next ⌝ }
+    ensures { λ r. ⌜ AssertionsClosed r (was out) (is out) (was frames) (was captures) (is captures) st at next ⌝ }
 {
     let closed = close_frame(out, frames, captures, st, at);
-    behind(closed, next)
+    walked_to(closed, next)
 }

@@ -1,5 +1,5 @@
--- A spec that is kept or dropped is the rules' `recorded`, and behind a frame that closes it is `closed-spec`. Assumes nothing.
-use Prim.Native.Nat.{ℕ, zero, suc, _+_, _≤_, _<_}
+-- A spec that is kept or dropped is the rules' `recorded`, and after a frame that closes it is `closed-spec`. Assumes nothing.
+use Prim.Native.Nat.{ℕ, suc, _+_, _≤_, _<_}
 use mathlib.Core.Bool.{Bool, true, false, false≢true}
 use mathlib.Core.List.{List, [], _∷_}
 use mathlib.Core.Path.{_≡_, refl, sym, ap, _∙_}
@@ -17,77 +17,45 @@ use Rattle.rules.specs.State as rules
 use Rattle.rules.specs.Writing as writing
 use Rattle.rules.specs.Scoping as scoping
 use Rattle.rules.proofs.After.{After, fine, after-ok, after-bind, after-need}
+use Rattle.rules.proofs.Outcomes.{bind-assoc}
 use Rattle.law_runs.specs.Steps.{recorded, closed-spec}
-use Rattle.table_rows.proofs.Laws.{length-rows}
-use Rattle.table_rows.specs.Rows.{rows}
 use Rattle.value_depths.specs.Meaning.{result}
 use Rattle.value_depths.specs.declared.AnalysisResult.{AnalysisResult}
 use Rattle.table_locals.proofs.Laws.{length-locals}
-use Rattle.table_references.specs.Meaning.{references-of, reference-of-row}
-use Rattle.table_frames.specs.Meaning.{number}
-use Rattle.resolver.specs.Meaning.{frames-of}
+use Rattle.table_rows.specs.Entries.{number}
 use Rattle.state.specs.Seen.{Buffers, buffers, stack, limits-of, Fit}
+use Rattle.state.specs.Converting.{specs-to}
 use Rattle.state.specs.declared.AnalysisStack.{AnalysisStack}
 use Rattle.state.specs.declared.Limits.{Limits}
 use Rattle.state.specs.declared.Step.{Step}
 use Rattle.state.specs.declared.Step.the-variants.{Ok, Refused}
 use Rattle.state.specs.declared.Specs.{Specs}
 use Rattle.state.specs.declared.Specs.the-variants as specs-as
+use Rattle.state.proofs.Changing.{out-to, taint-to}
+use Rattle.state.proofs.Fitting.{fit-values, fit-back}
 use Rattle.step_write.specs.Answers.{Emitted}
 use Rattle.step_frame.specs.Answers.{FrameClosed}
 use Rattle.step_write.proofs.Laws.{limits-same}
 use Rattle.step_locals.specs.Answers.{FirstInFrame}
-use Rattle.step_retain.specs.Answers.{IsKept, SetAnalysis, KeptReferences}
+use Rattle.step_retain.specs.Answers.{Keepable, IsKept, SetAnalysis, KeptReferences}
+use Rattle.table_references.proofs.Keeping.{length-references}
+use Rattle.resolver.proofs.Laws.{length-frames}
 use Rattle.step_spec.specs.Answers.{spec-mark, spec-numbers, kept-spec, OuterTainted, SpecDropped, SpecWritten, SpecKept, Counted, SpecRecorded, SpecClosed}
 use Rattle.step_spec.specs.declared.Spec.{Spec}
 use Rattle.step_spec.specs.declared.Spec.the-variants.{Bind, Param}
 
 -- What encloses the value, and the output taken back
 
--- the state with another dependence, and with no more output
-abbrev pub left-as : (taint : AnalysisResult) → (out : ℕ) → AnalysisStack → AnalysisStack
-left-as taint out st = record {
-  locals = st .locals;
-  frames = st .frames;
-  captures = st .captures;
-  references = st .references;
-  out = out;
-  diagnostics = st .diagnostics;
-  «self_used» = st .«self_used»;
-  «super_used» = st .«super_used»;
-  «dollar_used» = st .«dollar_used»;
-  taint = taint;
-  errored = st .errored;
-  rounds = st .rounds;
-}
-
-fit-left : (l : Limits) (b : Buffers) (st : AnalysisStack) (taint : AnalysisResult) (out : ℕ) → out ≤ st .out → Fit l b st → Fit l b (left-as taint out st)
-fit-left l b st taint out le f = record {
-  locals-long = f .locals-long;
-  frames-long = f .frames-long;
-  captures-long = f .captures-long;
-  references-long = f .references-long;
-  few-locals = f .few-locals;
-  few-frames = f .few-frames;
-  few-captures = f .few-captures;
-  few-references = f .few-references;
-  out-long = omega (arith, f .out-long);
-  diagnostics-long = f .diagnostics-long;
-  frames-kept = f .frames-kept;
-  first-there = f .first-there;
-  first-rises = f .first-rises;
-}
-
 pub outer-tainted : (st : AnalysisStack) (outer taint : AnalysisResult) → result taint ≡ depths.taint-by (result outer) (result (st .taint))
-    → OuterTainted (left-as taint (st .out) st) st outer
+    → OuterTainted (taint-to taint st) st outer
 unfolding stack scoping.taint-outer rules.with-taint
 outer-tainted st outer taint taints = record {
   same = λ b. ap (λ (a : depths.AnalysisResult). rules.with-taint a (stack b st)) taints;
-  fit = λ l b f. fit-left l b st taint (st .out) (omega arith) f;
+  fit = λ l b f. fit-values f;
   written = refl;
 }
 
-pub spec-dropped : (st : AnalysisStack) (start : ℕ) → start ≤ st .out → SpecDropped (left-as (st .taint) start st) st start
+pub spec-dropped : (st : AnalysisStack) (start : ℕ) → start ≤ st .out → SpecDropped (out-to start st) st start
 unfolding stack scoping.drop-spec scoping.frame-locals passed-on rules.taken-back rules.with-out rules.with-sink rules.with-locals
 spec-dropped st start le = record {
   becomes = λ l b f. record {
@@ -95,7 +63,7 @@ spec-dropped st start le = record {
         let S = stack b st in
         ap (λ (o : List ℕ). rules.with-out o S) (sym (take-take start (st .out) (b .out) le))
         ∙ ap (λ (ls : List LocalDefinition). rules.taken-back start (rules.with-locals ls S)) (sym (take-append-drop (scoping.first-in-frame S) (S .locals)));
-    fit = fit-left l b st (st .taint) start le f;
+    fit = fit-back f le;
   };
 }
 
@@ -169,15 +137,22 @@ module _ (locals locals₁ references references′ frames : List ℕ) (limits :
         fit = λ ds cs f. tt;
       }
 
--- An answer with the place behind and how many are kept
+-- a state that fits is one from which a spec can be kept
+pub keepable : {l : Limits} {b : Buffers} {st : AnalysisStack} → Fit l b st → Keepable l (b .locals) (b .frames) (b .references) st
+keepable f = record {
+  locals-long = omega (arith, f .locals-long, f .few-locals);
+  frames-long = omega (arith, f .frames-long, f .few-frames);
+  references-long = f .references-long;
+  few-references = f .few-references;
+  first-there = f .first-there;
+}
 
-pub counted : (step : Step) (st : AnalysisStack) (next kept : ℕ) → step ≡ Ok st → Counted (specs-as.To st next kept) step next kept
-unfolding _>>=_
-counted step st next kept e = rw e (record { same = λ b. refl; fit = λ l b f. f; few = omega arith })
+-- An answer with the place after it and how many are kept
 
-pub counted-not : (step : Step) (number place next kept : ℕ) → step ≡ Refused number place → Counted (specs-as.Refused number place) step next kept
-unfolding _>>=_
-counted-not step number place next kept e = rw e (record { same = λ b. refl; fit = λ l b f. f; few = tt })
+pub counted : (step : Step) (next kept : ℕ) (r : Specs) → r ≡ specs-to next kept step → Counted r step next kept
+unfolding specs-to _>>=_
+counted (Ok st) next kept r e = rw e (record { same = λ b. refl; fit = λ l b f. f; few = omega arith })
+counted (Refused number place) next kept r e = rw e (record { same = λ b. refl; fit = λ l b f. f; few = tt })
 
 -- The rules' step
 
@@ -201,18 +176,12 @@ kept-there locals frames st place next first k is e starts = by (decLt (first + 
         let b = buffers [] [] locals frames [] [] in
         absurd (false≢true (sym (is-kept-outside place next (stack b st) (omega (arith, long-locals b st, starts .same [] [] locals [] []))) ∙ sym (is .same [] [] [] []) ∙ e))
 
--- steps put together either way
-after-one : {A B C : Type 0} (o : Outcome A) (f : A → Outcome B) (g : B → Outcome C) → ((o >>= f) >>= g) ≡ (o >>= λ a. f a >>= g)
-unfolding _>>=_
-after-one (ok a) f g = refl
-after-one (refuse number place) f g = refl
-
 abbrev with-place : ℕ → ℕ × rules.AnalysisStack → Outcome (ℕ × (rules.AnalysisStack × ℕ))
 with-place next x = ok (x .0, (x .1, next))
 
 after-two : {A B C D : Type 0} (o : Outcome A) (f : A → Outcome B) (g : B → Outcome C) (h : C → Outcome D) → ((o >>= λ a. f a >>= g) >>= h) ≡ ((o >>= f) >>= λ b. g b >>= h)
 unfolding _>>=_
-after-two (ok a) f g h = after-one (f a) g h
+after-two (ok a) f g h = bind-assoc (f a) g h
 after-two (refuse number place) f g h = refl
 
 module _ (limits : rules.Limits) (place base kept start : ℕ) (outer : depths.AnalysisResult) (m : Mark) (numbers : ℕ → List ℕ) (next : ℕ) (S : rules.AnalysisStack) where
@@ -264,16 +233,7 @@ module _ (out locals references frames : List ℕ) (limits : Limits) (st : Analy
     few = omega arith;
   }
 
--- Behind a frame that closes
-
-length-references : (n : ℕ) (t : List ℕ) → length (references-of n t) ≡ n
-unfolding references-of
-length-references n t = length-map (rows n t) reference-of-row ∙ length-rows n t
-
-length-frames : (n : ℕ) (frames : List ℕ) (count : ℕ) (captures : List ℕ) → length (frames-of n frames count captures) ≡ n
-unfolding frames-of
-length-frames zero frames count captures = refl
-length-frames (suc n) frames count captures = ap suc (length-frames n frames count captures)
+-- After a frame that closes
 
 -- as many locals and references as before, no more frames and no less output
 pub record Leaves (S T : rules.AnalysisStack) : Type 0 where

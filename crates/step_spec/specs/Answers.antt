@@ -69,7 +69,7 @@ abbrev pub Few : Specs → ℕ → Type 0
 Few (specs-as.To st next kept) n = kept ≤ n
 Few (specs-as.Refused number place) n = Unit {0}
 
--- a step's answer, with the place behind and how many are kept
+-- a step's answer, with the place after and how many are kept
 pub record Counted (r : Specs) (step : Step) (next kept : ℕ) : Type 0 where
   pub same : (b : Buffers) → specs r b ≡ (seen step b >>= λ st. ok (kept, (st, next)))
   pub fit : (l : Limits) (b : Buffers) → Fits l step b → Specs-fits l r b

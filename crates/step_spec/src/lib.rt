@@ -3,16 +3,19 @@ ghost use mathlib.Core.Path.{_≡_};
 ghost use Prim.Native.Nat.{ℕ, _+_, _*_, _<_, _≤_};
 ghost use lib.ListN.{length};
 ghost use Rattle.resolver.specs.Kept.{Kept};
-ghost use Rattle.table_frames.specs.Meaning.{number};
-ghost use Rattle.step_spec.specs.Answers.{OuterTainted, SpecDropped, SpecWritten, SpecKept, Counted, SpecRecorded, SpecClosed};
+ghost use Rattle.table_rows.specs.Entries.{number};
+ghost use Rattle.state.specs.Seen.{was, is};
+ghost use Rattle.step_retain.specs.Answers.{Keepable};
+ghost use Rattle.step_spec.specs.Answers.{OuterTainted, SpecDropped, SpecWritten, SpecKept, SpecRecorded, SpecClosed};
 use state::AnalysisStack;
 use state::Limits;
 use state::Specs;
 use state::Step;
+use state::specs_to;
 use step_frame::close_frame;
 use step_locals::first_in_frame;
 use step_retain::is_kept;
-use step_retain::keep_references;
+use step_retain::keep_spec_references;
 use step_retain::set_analysis;
 use step_write::emit;
 use value_depths::AnalysisResult;
@@ -47,7 +50,7 @@ fn drop_spec(st: AnalysisStack, start: usize) -> AnalysisStack
 
 // `BV` and the slot, or `PA` with the name, the slot and the flag.
 fn write_spec(out: &mut [u8], st: AnalysisStack, at: usize, spec: Spec, slot: u32) -> Step
-    ensures { λ r. ⌜ SpecWritten r (now (out .entry)) (now (out .exit)) st at spec slot ⌝ }
+    ensures { λ r. ⌜ SpecWritten r (was out) (is out) st at spec slot ⌝ }
 {
     match spec {
         Spec::Bind => emit(out, st, at, b"BV", &[slot]),
@@ -69,11 +72,12 @@ fn keep_spec(
     outer: AnalysisResult,
     spec: Spec,
 ) -> Step
-    requires { ⌜ (16 * st .locals ≤ length (now locals)) × (16 * st .frames ≤ length (now frames)) × (16 * limits .«max_references» ≤ length (now references)) × (st .references ≤ limits .«max_references») × ((f : ℕ) → f < st .frames → number (now frames) f 1 ≤ st .locals) ⌝ }
+    requires { ⌜ Keepable limits (now locals) (now frames) (now references) st ⌝ }
     requires { ⌜ id .0 < st .locals ⌝ }
-    ensures { λ r. ⌜ SpecKept r (now (out .entry)) (now (out .exit)) (now (locals .entry)) (now (locals .exit)) (now (references .entry)) (now (references .exit)) (now (frames .entry)) limits st at (id .0) slot outer spec ⌝ }
+    ensures { λ r. ⌜ SpecKept r (was out) (is out) (was locals) (is locals) (was references) (is references)
+        (was frames) limits st at (id .0) slot outer spec ⌝ }
 {
-    let noted = keep_references(locals, references, frames, limits, st, at, id);
+    let noted = keep_spec_references(locals, references, frames, limits, st, at, id);
     match noted {
         Step::Ok(after) => {
             let analysed = set_analysis(locals, after, id);
@@ -90,16 +94,6 @@ fn id_of(first: u32, slot: u32, locals: u32) -> LocalId
     ensures { λ r. ⌜ r .0 ≡ first + slot ⌝ }
 {
     LocalId(first + slot)
-}
-
-// A step's answer, with the place behind and how many specs are kept.
-fn and_kept(step: Step, next: usize, kept: u32) -> Specs
-    ensures { λ r. ⌜ Counted r step next kept ⌝ }
-{
-    match step {
-        Step::Ok(st) => Specs::To(st, next, kept),
-        Step::Refused(why, at) => Specs::Refused(why, at),
-    }
 }
 
 // A spec's value is done: it is kept where the next of its frame's slots is its own, and else dropped. The slots before `base`
@@ -119,8 +113,9 @@ pub fn record_spec_init(
     spec: Spec,
     next: usize,
 ) -> Specs
-    requires { ⌜ ((16 * st .locals ≤ length (now locals)) × (16 * st .frames ≤ length (now frames)) × (16 * limits .«max_references» ≤ length (now references)) × (st .references ≤ limits .«max_references») × ((f : ℕ) → f < st .frames → number (now frames) f 1 ≤ st .locals)) × (base + kept + 1 < 4294967296) × (start ≤ st .out) ⌝ }
-    ensures { λ r. ⌜ SpecRecorded r (now (out .entry)) (now (out .exit)) (now (locals .entry)) (now (locals .exit)) (now (references .entry)) (now (references .exit)) (now (frames .entry)) limits st at base kept start outer spec next ⌝ }
+    requires { ⌜ Keepable limits (now locals) (now frames) (now references) st × (base + kept + 1 < 4294967296) × (start ≤ st .out) ⌝ }
+    ensures { λ r. ⌜ SpecRecorded r (was out) (is out) (was locals) (is locals) (was references) (is references)
+        (was frames) limits st at base kept start outer spec next ⌝ }
 {
     let slot = base + kept;
     if is_kept(locals, frames, st, at, slot) {
@@ -138,7 +133,7 @@ pub fn record_spec_init(
             outer,
             spec,
         );
-        return and_kept(done, next, kept + 1);
+        return specs_to(done, next, kept + 1);
     }
     let tainted = taint_outer(st, outer);
     Specs::To(drop_spec(tainted, start), next, kept)
@@ -161,8 +156,11 @@ pub fn close_spec(
     spec: Spec,
     next: usize,
 ) -> Specs
-    requires { ⌜ ((16 * st .locals ≤ length (now locals)) × (16 * st .frames ≤ length (now frames)) × (16 * limits .«max_references» ≤ length (now references)) × (st .references ≤ limits .«max_references») × ((f : ℕ) → f < st .frames → number (now frames) f 1 ≤ st .locals)) × (base + kept + 1 < 4294967296) × (start ≤ st .out) × (st .out ≤ length (now out)) × (Kept (st .frames) (now frames) (st .captures) (now captures)) ⌝ }
-    ensures { λ r. ⌜ SpecClosed r (now (out .entry)) (now (out .exit)) (now (locals .entry)) (now (locals .exit)) (now (references .entry)) (now (references .exit)) (now (frames .entry)) (now (captures .entry)) (now (captures .exit)) limits st at base kept start outer spec next ⌝ }
+    requires { ⌜ Keepable limits (now locals) (now frames) (now references) st × (base + kept + 1 < 4294967296) ×
+        (start ≤ st .out) × (st .out ≤ length (now out)) ×
+        (Kept (st .frames) (now frames) (st .captures) (now captures)) ⌝ }
+    ensures { λ r. ⌜ SpecClosed r (was out) (is out) (was locals) (is locals) (was references) (is references)
+        (was frames) (was captures) (is captures) limits st at base kept start outer spec next ⌝ }
 {
     let closed = close_frame(out, frames, captures, st, at);
     match closed {

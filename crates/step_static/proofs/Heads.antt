@@ -1,4 +1,4 @@
--- The first of several heads that were read: what it says, and that the others were read behind it. Assumes nothing.
+-- The first of several heads that were read: what it says, and that the others were read after it. Assumes nothing.
 use Prim.Native.Nat.{ℕ, suc, _+_, _≤_}
 use mathlib.Core.Bool.{true, false}
 use mathlib.Core.List.{List, _∷_}
@@ -11,11 +11,12 @@ use Rattle.rules.specs.Records.{size-of, numbers-of, fields, widths, width}
 use Rattle.rules.specs.Tree.{Heads, no-heads}
 use Rattle.rules.specs.FirstWalk.{any-expression, only, Read, nth, many, none-left, head-item, head-of, expr-at}
 use Rattle.rules.specs.Walk.{is-static, is-among}
-use Rattle.rules.proofs.After.{After, fine, after-ok, after-bind, after-choose}
+use Rattle.rules.proofs.After.{After, fine, after-ok, after-bind, after-choose, after-self}
+use Rattle.rules.proofs.Outcomes.{same-ok}
 use Rattle.bytes_skip.proofs.Reading.{Was, record-was, only-mark}
 use Rattle.law_runs.specs.Run.{heads-at}
-use Rattle.law_runs.proofs.Binding.{same-ok, after-self, many-split}
-use Rattle.step_place.proofs.Laws.{is-zero, not-zero}
+use Rattle.law_runs.proofs.Binding.{many-split}
+use Rattle.rules.proofs.Flags.{zero-of, not-zero-of}
 
 module _ (s : List ℕ) (levels : ℕ) where
   record HeadRead (p : ℕ) (i : (Heads → Heads) × ℕ) : Type 0 where
@@ -53,12 +54,12 @@ module _ (s : List ℕ) (levels : ℕ) where
       fine (record {
         fits = says .fits;
         stops = λ nz seen hs. refl;
-        next = λ z. absurd (not-zero _ t (says .kind ∙ z));
-        goes = λ z seen hs. absurd (not-zero _ t (says .kind ∙ z));
+        next = λ z. absurd (not-zero-of _ t (says .kind ∙ z));
+        goes = λ z seen hs. absurd (not-zero-of _ t (says .kind ∙ z));
       }))
       (λ t. fine (record {
         fits = says .fits;
-        stops = λ nz seen hs. absurd (nz (sym (says .kind) ∙ is-zero _ t));
+        stops = λ nz seen hs. absurd (nz (sym (says .kind) ∙ zero-of _ t));
         next = λ z. says .next;
         goes = λ z seen hs. rw (says .name);
       }))

@@ -1,10 +1,9 @@
--- Laws of using a local, and of a state in which only entries of locals and references, the taint and how many references changed. Assumes nothing.
-use Prim.Native.Nat.{ℕ, _≤_, _<_}
+-- Laws of using a local. Assumes nothing.
+use Prim.Native.Nat.{ℕ, _<_}
 use mathlib.Core.Bool.{true, false}
 use mathlib.Core.List.{List}
-use mathlib.Core.Path.{_≡_, refl, sym, ap, _∙_}
-use native.Mathlib.Omega.{arith}
-use lib.ListN.{length, set}
+use mathlib.Core.Path.{_≡_, sym, ap, _∙_}
+use lib.ListN.{set}
 use Rattle.rules.specs.Outcome.{choose}
 use Rattle.rules.specs.Depths as depths
 use Rattle.rules.specs.Locals as rules
@@ -18,47 +17,11 @@ use Rattle.table_locals.specs.Meaning.{local-of-row, locals-of, with-use}
 use Rattle.table_locals.specs.Tables.{PutLocal}
 use Rattle.value_local.specs.declared.LocalDefinition.{LocalDefinition}
 use Rattle.table_locals.proofs.Laws.{locals-at, used-only}
-use Rattle.state.specs.Seen.{buffers, stack, Fit}
+use Rattle.state.specs.Seen.{buffers, stack}
 use Rattle.state.specs.declared.AnalysisStack.{AnalysisStack}
-use Rattle.state.specs.declared.Limits.{Limits}
+use Rattle.state.proofs.Changing.{taint-to}
+use Rattle.state.proofs.Fitting.{fit-values, fit-entries}
 use Rattle.step_touch.specs.Answers.{TouchedLocal, TouchedObject, tainted-by-local}
-
--- the state with another taint and so many references
-abbrev pub with-values : AnalysisResult → ℕ → AnalysisStack → AnalysisStack
-with-values taint n st = record {
-  locals = st .locals;
-  frames = st .frames;
-  captures = st .captures;
-  references = n;
-  out = st .out;
-  diagnostics = st .diagnostics;
-  «self_used» = st .«self_used»;
-  «super_used» = st .«super_used»;
-  «dollar_used» = st .«dollar_used»;
-  taint = taint;
-  errored = st .errored;
-  rounds = st .rounds;
-}
-
--- nothing that fits depends on what the entries of the locals and of the references hold
-pub fits-still : {limits : Limits} {st : AnalysisStack} {out diagnostics locals locals′ frames captures references references′ : List ℕ} (taint : AnalysisResult) (n : ℕ)
-    → length locals′ ≡ length locals → length references′ ≡ length references → n ≤ limits .«max_references»
-    → Fit limits (buffers out diagnostics locals frames captures references) st → Fit limits (buffers out diagnostics locals′ frames captures references′) (with-values taint n st)
-fits-still taint n size size′ few fit = record {
-  locals-long = omega (arith, fit .locals-long);
-  frames-long = fit .frames-long;
-  captures-long = fit .captures-long;
-  references-long = omega (arith, fit .references-long);
-  few-locals = fit .few-locals;
-  few-frames = fit .few-frames;
-  few-captures = fit .few-captures;
-  few-references = few;
-  out-long = fit .out-long;
-  diagnostics-long = fit .diagnostics-long;
-  frames-kept = fit .frames-kept;
-  first-there = fit .first-there;
-  first-rises = fit .first-rises;
-}
 
 -- What a value depends on that uses a local
 
@@ -96,7 +59,7 @@ module _ (locals : List ℕ) (st : AnalysisStack) (id : ℕ) (l : LocalDefinitio
 
   pub touched : {locals′ : List ℕ} {d : rules.LocalDefinition} (used : LocalDefinition) (depth : ℕ) (taint : AnalysisResult) → PutLocal locals locals′ id d
       → d ≡ rules.note-reference (local used) → local used ≡ rules.use-at depth (local l) → result taint ≡ tainted-by-local (result (st .taint)) (local l)
-      → TouchedLocal (with-values taint (st .references) st) locals locals′ st depth id
+      → TouchedLocal (taint-to taint st) locals locals′ st depth id
   unfolding stack scoping.touch-local with-taint with-locals tainted-by-local
   touched used depth taint put noted uses taints = record {
     same = λ out diagnostics frames captures references.
@@ -104,16 +67,16 @@ module _ (locals : List ℕ) (st : AnalysisStack) (id : ℕ) (l : LocalDefinitio
         ap (λ (ls : List rules.LocalDefinition). with-taint (result taint) (with-locals ls S)) (stored (λ m. rules.note-reference (rules.use-at depth m)) put (noted ∙ ap rules.note-reference uses))
         ∙ ap (λ (a : depths.AnalysisResult). with-taint a (with-locals (set (locals-of (st .locals) locals) id (rules.note-reference (rules.use-at depth mine))) S))
         (taints ∙ ap (tainted-by-local (result (st .taint))) is-mine);
-    fit = λ limits out diagnostics frames captures references fit. fits-still taint (st .references) (put .size) refl (fit .few-references) fit;
+    fit = λ limits out diagnostics frames captures references fit. fit-values (fit-entries fit (put .size));
   }
 
   pub object-touched : (taint : AnalysisResult)
       → result taint ≡ depths.depend-on-object (l .«defined_at_depth») (depths.depend-on-local (l .«defined_at_depth») (result (st .taint)))
-      → TouchedObject (with-values taint (st .references) st) locals st id
+      → TouchedObject (taint-to taint st) locals st id
   unfolding stack scoping.touch-object with-taint local
   object-touched taint taints = record {
     same = λ out diagnostics frames captures references.
         ap (λ (a : depths.AnalysisResult). with-taint a (stack (buffers out diagnostics locals frames captures references) st))
         (taints ∙ ap (λ (m : rules.LocalDefinition). depths.depend-on-object (m .defined-at-depth) (depths.depend-on-local (m .defined-at-depth) (result (st .taint)))) is-mine);
-    fit = λ limits out diagnostics frames captures references fit. fits-still taint (st .references) refl refl (fit .few-references) fit;
+    fit = λ limits out diagnostics frames captures references fit. fit-values fit;
   }

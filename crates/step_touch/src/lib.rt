@@ -5,6 +5,7 @@ ghost use lib.ListN.{length};
 ghost use Rattle.rules.specs.Scoping.{could-be-hoisted};
 ghost use Rattle.value_local.specs.Meaning.{local};
 ghost use Rattle.value_depths.specs.Meaning.{result};
+ghost use Rattle.state.specs.Seen.{was, is};
 ghost use Rattle.step_touch.specs.Answers.{TouchedLocal, TouchedObject, tainted-by-local};
 use state::AnalysisStack;
 use table_locals::local_at;
@@ -30,7 +31,7 @@ fn taint_by_local(taint: AnalysisResult, l: LocalDefinition) -> AnalysisResult
 // A use of a local.
 pub fn touch_local(locals: &mut [u32], st: AnalysisStack, depth: u32, id: LocalId) -> AnalysisStack
     requires { ⌜ (16 * st .locals ≤ length (now locals)) × (id .0 < st .locals) ⌝ }
-    ensures { λ r. ⌜ TouchedLocal r (now (locals .entry)) (now (locals .exit)) st depth (id .0) ⌝ }
+    ensures { λ r. ⌜ TouchedLocal r (was locals) (is locals) st depth (id .0) ⌝ }
 {
     let l = local_at(locals, id);
     let used = use_at(l, depth);
@@ -45,7 +46,7 @@ pub fn touch_local(locals: &mut [u32], st: AnalysisStack, depth: u32, id: LocalI
 // A use of an object's `this`.
 pub fn touch_object(locals: &[u32], st: AnalysisStack, id: LocalId) -> AnalysisStack
     requires { ⌜ (16 * st .locals ≤ length (now locals)) × (id .0 < st .locals) ⌝ }
-    ensures { λ r. ⌜ TouchedObject r (now (locals .entry)) st (id .0) ⌝ }
+    ensures { λ r. ⌜ TouchedObject r (was locals) st (id .0) ⌝ }
 {
     let l = local_at(locals, id);
     let depth = l.defined_at_depth;

@@ -1,4 +1,4 @@
--- What a record behind the bytes that were used means: the rules' state with one record more, or a refusal. Assumes nothing.
+-- What a record after the bytes that were used means: the rules' state with one record more, or a refusal. Assumes nothing.
 use Prim.Native.Nat.{ℕ, _+_, _≤_, _<_}
 use mathlib.Core.Bool.{Bool, true, false, _||_}
 use mathlib.Core.List.{List, [], _∷_, _++_, append-assoc}
@@ -17,19 +17,20 @@ use Rattle.rules.specs.Writing as rules-writing
 use Rattle.bytes_write.specs.Put.{put, Put}
 use Rattle.bytes_write.specs.declared.Written.{Written}
 use Rattle.bytes_write.specs.declared.Written.the-variants.{To, NoRoom}
-use Rattle.state.specs.Seen.{buffers, stack, seen, limits-of, Fit}
+use Rattle.state.specs.Seen.{buffers, stack, seen, limits-of, span-of}
 use Rattle.state.specs.declared.AnalysisStack.{AnalysisStack}
 use Rattle.state.specs.declared.Limits.{Limits}
 use Rattle.state.specs.declared.Step.{Step}
 use Rattle.state.specs.declared.Step.the-variants.{Ok, Refused}
 use Rattle.step_write.specs.Answers.{level-of, Behind, Emitted, Reported, BadPlace}
-use Rattle.state.specs.Seen.{span-of}
+use Rattle.state.proofs.Changing.{out-to, diagnostics-to}
+use Rattle.state.proofs.Fitting.{fit-beside}
 use Rattle.step_write.specs.declared.Level.{Level}
 use Rattle.step_write.specs.declared.Level.the-variants.{Error, Warning}
 
--- Bytes behind those that were used
+-- Bytes after those that were used
 
--- a record that was put stands behind them
+-- a record that was put stands after them
 pub put-behind : (r : Written) (before after : List ℕ) (used : ℕ) (bytes : List ℕ) → Put r before after used bytes → Behind r before after used bytes
 unfolding put
 put-behind (To next) before after used bytes p =
@@ -38,7 +39,7 @@ put-behind (To next) before after used bytes p =
     (p .0, p .1, ap (take next) (p .2) ∙ take-at (take used before ++ bytes) (drop (used + length bytes) before) next long)
 put-behind NoRoom before after used bytes p = p .0
 
--- what stands behind the bytes that stand behind those that were used
+-- what stands after the bytes that stand after those that were used
 pub behind-more : (r : Written) (before middle after : List ℕ) (used next : ℕ) (bytes more : List ℕ) → length middle ≡ length before
     → Behind (To next) before middle used bytes → Behind r middle after next more → Behind r before after used (bytes ++ more)
 behind-more (To end) before middle after used next bytes more long p q = (
@@ -73,49 +74,6 @@ passes b number place f e = rw e refl
 pub fails : {A : Type 0} (b : Bool) (number place : ℕ) (f : Unit {0} → Outcome A) → b ≡ false → (need b number place >>= f) ≡ refuse number place
 unfolding _>>=_ need
 fails b number place f e = rw e refl
-
--- The state with other counts of bytes, which fits where they do
-
-abbrev pub bytes-to : (out diagnostics : ℕ) → Bool → AnalysisStack → AnalysisStack
-bytes-to out diagnostics errored st = record {
-  locals = st .locals;
-  frames = st .frames;
-  captures = st .captures;
-  references = st .references;
-  out = out;
-  diagnostics = diagnostics;
-  «self_used» = st .«self_used»;
-  «super_used» = st .«super_used»;
-  «dollar_used» = st .«dollar_used»;
-  taint = st .taint;
-  errored = errored;
-  rounds = st .rounds;
-}
-
-abbrev pub out-to : ℕ → AnalysisStack → AnalysisStack
-out-to next st = bytes-to next (st .diagnostics) (st .errored) st
-
-abbrev pub diagnostics-to : ℕ → Bool → AnalysisStack → AnalysisStack
-diagnostics-to next errored st = bytes-to (st .out) next errored st
-
-bytes-fit : (l : Limits) (out out′ diagnostics diagnostics′ locals frames captures references : List ℕ) (st : AnalysisStack) (next next′ : ℕ) (errored : Bool)
-    → Fit l (buffers out diagnostics locals frames captures references) st → next ≤ length out′ → next′ ≤ length diagnostics′
-    → Fit l (buffers out′ diagnostics′ locals frames captures references) (bytes-to next next′ errored st)
-bytes-fit l out out′ diagnostics diagnostics′ locals frames captures references st next next′ errored fit long long′ = record {
-  locals-long = fit .locals-long;
-  frames-long = fit .frames-long;
-  captures-long = fit .captures-long;
-  references-long = fit .references-long;
-  few-locals = fit .few-locals;
-  few-frames = fit .few-frames;
-  few-captures = fit .few-captures;
-  few-references = fit .few-references;
-  out-long = long;
-  diagnostics-long = long′;
-  frames-kept = fit .frames-kept;
-  first-there = fit .first-there;
-  first-rises = fit .first-rises;
-}
 
 -- A record of the output
 
@@ -158,7 +116,7 @@ module _ (before after : List ℕ) (st : AnalysisStack) (place : ℕ) (mark ns :
     same = λ m e l ds ls fs cs rs.
         emit-wrote before after st place bytes ns m (spells m e) l ds ls fs cs rs next (put-behind (To next) before after (st .out) bytes p);
     fit = λ l ds ls fs cs rs fit.
-        bytes-fit l before after ds ds ls fs cs rs st next (st .diagnostics) (st .errored) fit (omega (arith, p .1)) (fit .diagnostics-long);
+        fit-beside fit (omega (arith, p .1)) (fit .diagnostics-long);
   }
 
   pub emitted-nothing : Put NoRoom before after (st .out) bytes → Emitted (Refused 9 place) before after st place mark ns
@@ -234,7 +192,7 @@ module _ (before after : List ℕ) (st : AnalysisStack) (place : ℕ) (level : L
   reported-to next errored long p e = record {
     same = λ l out ls fs cs rs.
         report-wrote l out ls fs cs rs next errored (put-behind (To next) before after (st .diagnostics) diagnostic p) e;
-    fit = λ l out ls fs cs rs fit. bytes-fit l out out before after ls fs cs rs st (st .out) next errored fit (fit .out-long) (omega (arith, p .1));
+    fit = λ l out ls fs cs rs fit. fit-beside fit (fit .out-long) (omega (arith, p .1));
   }
 
   pub reported-nothing : Put NoRoom before after (st .diagnostics) diagnostic → Reported (Refused 10 place) before after st place level code name span

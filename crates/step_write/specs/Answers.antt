@@ -19,7 +19,7 @@ unfoldable pub level-of : Level → rules.Level
 level-of Error = rules.error
 level-of Warning = rules.warning
 
--- these bytes stand behind those that were used, or had no room; what lies past them may be anything
+-- these bytes stand after those that were used, or had no room; what lies past them may be anything
 abbrev pub Behind : Written → (before after : List ℕ) → (used : ℕ) → (bytes : List ℕ) → Type 0
 Behind (To next) before after used bytes = (next ≡ used + length bytes) × (next ≤ length before) × (take next after ≡ take used before ++ bytes)
 Behind NoRoom before after used bytes = length before < used + length bytes

@@ -1,6 +1,7 @@
-// The steps that write: output and diagnostics records behind what was written.
+// The steps that write: output and diagnostics records after what was written.
 ghost use mathlib.Core.Path.{_≡_};
 ghost use Rattle.rules.specs.Writing.{level-number};
+ghost use Rattle.state.specs.Seen.{was, is};
 ghost use Rattle.step_write.specs.Answers.{level-of, Emitted, Reported, BadPlace};
 use bytes_write::Written;
 use bytes_write::put_record;
@@ -14,7 +15,7 @@ pub enum Level {
 
 // An output record, or refusal 9.
 pub fn emit(out: &mut [u8], st: AnalysisStack, place: usize, mark: &[u8; 2], ns: &[u32]) -> Step
-    ensures { λ r. ⌜ Emitted r (now (out .entry)) (now (out .exit)) st place (now (mark .entry)) (now (ns .entry)) ⌝ }
+    ensures { λ r. ⌜ Emitted r (was out) (is out) st place (was mark) (was ns) ⌝ }
 {
     let written = put_record(out, st.out, mark, ns);
     match written {
@@ -47,7 +48,7 @@ pub fn report(
     name: u32,
     span: u32,
 ) -> Step
-    ensures { λ r. ⌜ Reported r (now (diagnostics .entry)) (now (diagnostics .exit)) st place level code name span ⌝ }
+    ensures { λ r. ⌜ Reported r (was diagnostics) (is diagnostics) st place level code name span ⌝ }
 {
     let written = put_record(
         diagnostics,
@@ -82,7 +83,7 @@ pub fn bad_place(
     span: u32,
     bad: u32,
 ) -> Step
-    ensures { λ r. ⌜ BadPlace r (now (out .entry)) (now (out .exit)) (now (diagnostics .entry)) (now (diagnostics .exit)) st place code name span bad ⌝ }
+    ensures { λ r. ⌜ BadPlace r (was out) (is out) (was diagnostics) (is diagnostics) st place code name span bad ⌝ }
 {
     let reported = report(diagnostics, st, place, Level::Error, code, name, span);
     match reported {

@@ -3,7 +3,7 @@ use mathlib.Core.Path.{_≡_, refl, sym, ap, _∙_}
 use mathlib.Core.Logic.{_⊎_, inl, inr}
 use mathlib.Core.Bool.{Bool, true, false}
 use mathlib.Core.List.{List, [], _∷_, _++_, append-nil, append-assoc}
-use Prim.Native.Nat.{ℕ, zero, suc, _+_, _-_, _≤_, _<_}
+use Prim.Native.Nat.{ℕ, zero, suc, _≤_, _<_}
 use native.Mathlib.Omega.{arith}
 use native.Mathlib.Numerals.{add-one}
 use native.Mathlib.Decide.{decLt}
@@ -15,24 +15,8 @@ use Rattle.rules.specs.Frames as rules
 use Rattle.rules.specs.Writing.{slot-number}
 use Rattle.table_rows.specs.Rows.{rows}
 use Rattle.table_rows.proofs.Laws.{row-at, entries-at, one-more-entry, put-stored, put-here, put-behind}
-use Rattle.table_frames.specs.Meaning.{number}
-use Rattle.table_frames.specs.Answers.{Stored}
-use Rattle.table_captures.specs.Meaning.{
-  slot,
-  slot-kind,
-  slot-of,
-  Logged,
-  taking,
-  logged,
-  logged-of-row,
-  logged-at,
-  log-of,
-  log-at,
-  if-owned,
-  taken-by,
-  captures-of,
-  SmallSource,
-}
+use Rattle.table_rows.specs.Entries.{number, Stored}
+use Rattle.table_captures.specs.Meaning.{slot, slot-kind, slot-of, Logged, taking, logged, logged-of-row, logged-at, log-of, log-at, if-owned, taken-by, captures-of, SmallSource}
 use Rattle.table_captures.specs.Answers.{PutCapture}
 use Rattle.table_captures.specs.declared.Capture.{Capture}
 
@@ -137,7 +121,7 @@ pub captures-other : (o i : ℕ) (t : List ℕ) → (logged-at t i .owner ≡ o 
 unfolding captures-of
 captures-other o i t ne = ap (taken-by o) (log-more i t) ∙ taken-other o (log-of i t) (logged-at t i) ne
 
--- an entry put behind the log
+-- an entry put after the log
 module _ (t u : List ℕ) (count : ℕ) (e : Logged) (put : PutCapture t u count e) where
   log-put : log-of (suc count) u ≡ log-of count t ++ (e ∷ [])
   unfolding log-of

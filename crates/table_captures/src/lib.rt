@@ -5,9 +5,18 @@ ghost use lib.ListN.{length};
 ghost use Rattle.rules.specs.Writing.{slot-number};
 ghost use Rattle.table_captures.specs.Meaning.{slot, slot-kind, slot-of, logged, logged-at, log-at, log-of, SmallSource};
 ghost use Rattle.table_captures.specs.Answers.{PutCapture};
-use table_frames::number_at;
-use table_frames::put_entry;
+use table_rows::entry_number;
+use table_rows::put_entry;
 use value_local::LocalId;
+
+// `put_capture` stores these numbers in this order.
+const OWNER: usize = 0;
+
+const TARGET: usize = 1;
+
+const SOURCE_KIND: usize = 2;
+
+const SOURCE_NUMBER: usize = 3;
 
 pub struct LocalSlot(pub u16);
 
@@ -69,7 +78,7 @@ pub fn owner_at(captures: &[u32], i: u32) -> u32
     requires { ⌜ 16 * i + 16 ≤ length (now captures) ⌝ }
     ensures { λ r. ⌜ r ≡ logged-at (now (captures .entry)) i .owner ⌝ }
 {
-    number_at(captures, i, 0)
+    entry_number(captures, i, OWNER)
 }
 
 // What was captured.
@@ -77,7 +86,7 @@ pub fn target_at(captures: &[u32], i: u32) -> LocalId
     requires { ⌜ 16 * i + 16 ≤ length (now captures) ⌝ }
     ensures { λ r. ⌜ r .0 ≡ logged-at (now (captures .entry)) i .capture .target ⌝ }
 {
-    LocalId(number_at(captures, i, 1))
+    LocalId(entry_number(captures, i, TARGET))
 }
 
 // The capture of an entry.
@@ -88,7 +97,10 @@ pub fn capture_at(captures: &[u32], i: u32) -> Capture
     Capture {
         owner: owner_at(captures, i),
         target: target_at(captures, i),
-        source: slot_of(number_at(captures, i, 2), number_at(captures, i, 3)),
+        source: slot_of(
+            entry_number(captures, i, SOURCE_KIND),
+            entry_number(captures, i, SOURCE_NUMBER),
+        ),
     }
 }
 

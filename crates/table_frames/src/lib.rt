@@ -1,9 +1,20 @@
-// An entry's numbers read and stored, and a frame's entry got and put.
-ghost use mathlib.Core.Path.{_≡_};
+// A frame's entry got and put.
 ghost use Prim.Native.Nat.{ℕ, _+_, _*_, _<_, _≤_};
+ghost use mathlib.Core.Path.{_≡_};
 ghost use lib.ListN.{length};
-ghost use Rattle.table_frames.specs.Meaning.{number};
-ghost use Rattle.table_frames.specs.Answers.{Stored, FrameAt};
+ghost use Rattle.table_rows.specs.Entries.{number};
+ghost use Rattle.table_frames.specs.Answers.{FrameAt};
+use table_rows::entry_number;
+use table_rows::put_entry;
+
+// `put_frame` stores these numbers in this order.
+const IS_DEFINING: usize = 0;
+
+const FIRST_LOCAL: usize = 1;
+
+const N_LOCALS: usize = 2;
+
+const CAPTURES_FROM: usize = 3;
 
 pub struct Frame {
     pub is_defining: bool,
@@ -12,36 +23,16 @@ pub struct Frame {
     pub captures_from: u32,
 }
 
-// The number j of the entry k of a table.
-pub fn number_at(t: &[u32], k: u32, j: usize) -> u32
-    requires { ⌜ 16 * k + j < length (now t) ⌝ }
-    ensures { λ r. ⌜ r ≡ number (now (t .entry)) k j ⌝ }
-{
-    t[16 * (k as usize) + j]
-}
-
-// Four numbers become the first of the entry i.
-pub fn put_entry(t: &mut [u32], i: u32, a: u32, b: u32, c: u32, d: u32)
-    requires { ⌜ 16 * i + 4 ≤ length (now t) ⌝ }
-    ensures { λ r. ⌜ Stored (now (t .entry)) (now (t .exit)) i a b c d ⌝ }
-{
-    let k = 16 * (i as usize);
-    t[k] = a;
-    t[k + 1] = b;
-    t[k + 2] = c;
-    t[k + 3] = d;
-}
-
 // The entry i of the frames.
 pub fn frame_at(frames: &[u32], i: u32) -> Frame
     requires { ⌜ 16 * i + 4 ≤ length (now frames) ⌝ }
     ensures { λ r. ⌜ FrameAt (now (frames .entry)) i r ⌝ }
 {
     Frame {
-        is_defining: number_at(frames, i, 0) == 1,
-        first_local: number_at(frames, i, 1),
-        n_locals: number_at(frames, i, 2),
-        captures_from: number_at(frames, i, 3),
+        is_defining: entry_number(frames, i, IS_DEFINING) == 1,
+        first_local: entry_number(frames, i, FIRST_LOCAL),
+        n_locals: entry_number(frames, i, N_LOCALS),
+        captures_from: entry_number(frames, i, CAPTURES_FROM),
     }
 }
 

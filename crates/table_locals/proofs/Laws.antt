@@ -26,9 +26,6 @@ unfolding is-set
 not-zero-set zero = refl
 not-zero-set (suc n) = ap not (ne-eqb (suc n) 0 (λ e. omega arith))
 
-pub set-not-zero : (n : ℕ) → (n ≡ 0 → ⊥) → is-set n ≡ true
-set-not-zero n h = sym (not-zero-set n) ∙ ap not (ne-eqb n 0 h)
-
 is-set-bit : (b : Bool) → is-set (bit b) ≡ b
 unfolding is-set
 is-set-bit true = refl

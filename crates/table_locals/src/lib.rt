@@ -13,7 +13,7 @@ use value_local::LocalDefinition;
 use value_local::LocalId;
 
 // Where an entry has the numbers that are stored alone.
-const USED_AT_DEPTH: usize = 1;
+pub const USED_AT_DEPTH: usize = 1;
 
 const USED_BY_SIBLING: usize = 2;
 

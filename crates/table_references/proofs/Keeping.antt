@@ -18,7 +18,8 @@ use Rattle.table_rows.proofs.Laws.{row-at, row-set, row-beside, length-entries,
 use Rattle.table_locals.specs.Meaning.{local-of-row, locals-of}
 use Rattle.table_locals.specs.Tables.{PutLocal}
 use Rattle.table_locals.proofs.Fours.{four-tests}
-use Rattle.table_locals.proofs.Laws.{set-not-zero, length-locals, locals-at, local-stored}
+use Rattle.table_locals.proofs.Laws.{length-locals, locals-at, local-stored}
+use Rattle.rules.proofs.Flags.{set-of}
 use Rattle.table_references.specs.Meaning.{reference, reference-of-row, references-of, reference-at}
 use Rattle.table_references.specs.Tables.{PutReference, NoneNoted, with-noted, cleared, AllKept}
 
@@ -84,7 +85,7 @@ reference-put k user used t inside =
     (λ i differs. row-beside i k 1 used u (omega arith) differs ∙ ap (λ (m : ℕ). row i (set t m user)) at ∙ row-beside i k 0 user t (omega arith) differs) (reference user used)
     (length-set u (16 * k + 1) used ∙ length-set t (16 * k) user) (rw (first, second))
 
--- one more behind the first k
+-- one more after the first k
 reference-added : (k : ℕ) (t u : List ℕ) (r : Reference) → PutReference t u k r → references-of (k + 1) u ≡ references-of k t ++ (r ∷ [])
 unfolding references-of
 reference-added k t u r put = put-behind reference-of-row references-of (λ n t. refl) k t u r put
@@ -185,7 +186,7 @@ module _ {locals references : List ℕ} {user first total kept limit : ℕ} {t u
 
     module _ (noted : getD t (16 * k + 7) 0 ≡ 0 → ⊥) where
       set-here : local-at (locals-of total t) k .scratch-referenced ≡ true
-      set-here = note-here ∙ set-not-zero (getD t (16 * k + 7) 0) noted
+      set-here = note-here ∙ set-of noted
 
       pub keeping-kept : {u′ : List ℕ} → PutReference u u′ count (reference user k) → count < limit
           → Keeping locals references user first total kept limit (set t (16 * k + 7) 0) u′ (count + 1) (k + 1)

@@ -58,7 +58,7 @@ fn none_noted(locals: &[u32], next: usize, end: usize) -> bool
     (first & second) & (third & fourth)
 }
 
-// The references that the spec `user` has noted among the n locals from `first` on, kept behind the first `kept`; their notes are cleared.
+// The references that the spec `user` has noted among the n locals from `first` on, kept after the first `kept`; their notes are cleared.
 pub fn keep_references(
     locals: &mut [u32],
     references: &mut [u32],
@@ -68,8 +68,10 @@ pub fn keep_references(
     kept: usize,
     max_references: usize,
 ) -> Kept
-    requires { ⌜ (16 * (first + n) ≤ length (now locals)) × (first + n ≤ 4294967296) × (16 * «max_references» ≤ length (now references)) × (kept ≤ «max_references») ⌝ }
-    ensures { λ r. ⌜ Keeps r (now (locals .entry)) (now (locals .exit)) (now (references .entry)) (now (references .exit)) (user .0) first (first + n) kept «max_references» ⌝ }
+    requires { ⌜ (16 * (first + n) ≤ length (now locals)) × (first + n ≤ 4294967296) ×
+        (16 * «max_references» ≤ length (now references)) × (kept ≤ «max_references») ⌝ }
+    ensures { λ r. ⌜ Keeps r (now (locals .entry)) (now (locals .exit)) (now (references .entry))
+        (now (references .exit)) (user .0) first (first + n) kept «max_references» ⌝ }
 {
     let end = first + n;
     let mut count = kept;

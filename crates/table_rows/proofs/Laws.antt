@@ -60,7 +60,7 @@ row-beside i k j v t h differs = by (decLt i k)
 -- Other numbers in the place of an entry's
 
 module _ (k : ℕ) (t : List ℕ) (inside : 16 * k + 16 ≤ length t) where
-  -- what stands before the entry, the entry, and what stands behind it
+  -- what stands before the entry, the entry, and what stands after it
   abbrev front : List ℕ
   front = take (16 * k) t
 
@@ -182,6 +182,6 @@ module _ {A : Type 0} (entry : List ℕ → A) where
           ∙ ap (λ (l : List A). getD l k a) (sym (mean (suc k) u) ∙ put .held (suc k) (omega arith))
           ∙ getD-set-same (entries (suc k) t) k a a inside
 
-      -- stored behind the first k
+      -- stored after the first k
       pub put-behind : entries (k + 1) u ≡ entries k t ++ (a ∷ [])
       put-behind = rw (add-one k, mean (suc k) u, one-more-entry k u, put-here, sym (mean k u), put .below k (omega arith))

@@ -3,17 +3,17 @@ use Prim.Native.Nat.{ℕ}
 use native.Mathlib.Omega.{arith}
 use mathlib.Core.Path.{_≡_, refl, sym, ap, subst, _∙_}
 use Rattle.rules.specs.Outcome.{Outcome, ok, refuse, _>>=_}
-use Rattle.tree.specs.declared.Walk.{Walk}
-use Rattle.tree.specs.declared.Walk.the-variants.{Past, Refused}
+use Rattle.tree.specs.declared.FirstWalk.{FirstWalk}
+use Rattle.tree.specs.declared.FirstWalk.the-variants.{Past, Refused}
 use Rattle.tree.specs.Seen.{seen}
 use Rattle.tree.specs.Places.{Ends}
 
-module _ {r : Walk} {x : Outcome ℕ} (h : seen r ≡ x) where
+module _ {r : FirstWalk} {x : Outcome ℕ} (h : seen r ≡ x) where
   pub past-seen : {q : ℕ} → r ≡ Past q → ok q ≡ x
-  past-seen e = subst (λ (w : Walk). seen w ≡ x) e h
+  past-seen e = subst (λ (w : FirstWalk). seen w ≡ x) e h
 
   pub refused-seen : {number place : ℕ} → r ≡ Refused number place → refuse number place ≡ x
-  refused-seen e = subst (λ (w : Walk). seen w ≡ x) e h
+  refused-seen e = subst (λ (w : FirstWalk). seen w ≡ x) e h
 
   -- the next step begins where this one ended
   pub went : {q : ℕ} (f : ℕ → Outcome ℕ) → r ≡ Past q → f q ≡ (x >>= f)

@@ -10,22 +10,19 @@ use lib.ListN.{length, getD}
 use lib.Dec.{eqb, leb}
 use borrow.Author.Tests.{le-leb, lt-leb, eq-eqb, ne-eqb, lt-ltb}
 use Rattle.rules.specs.Outcome.{Outcome, ok, refuse, choose, given, need, _>>=_}
-use Rattle.rules.specs.Numbers.{Mark, code, code-at, number-at, numbers-at, is-set, bit}
+use Rattle.rules.specs.Numbers.{Mark, code, code-at, number-at, numbers-at, is-set, bit, ID, TV, VA, AR, OX, UN, BI, AS, LO, ER, IM, AP, IX, FN, IF, SC, OB, BV, BF, PA, AT, FH, NA, PT}
 use Rattle.rules.specs.Records.{size-of, numbers-of, fields, all-in-range, widths, width}
-use Rattle.rules.specs.Numbers.{ID, TV, VA, AR, OX, UN, BI, AS, LO, ER, IM, AP, IX, FN, IF, SC, OB, BV, BF, PA, AT, FH, NA, PT}
 use Rattle.rules.specs.Tree.{Expr, Heads, no-exprs, _then_, no-binds, no-params, no-heads, array, plain}
-use Rattle.rules.specs.FirstWalk.{Allowed, any-expression, function-only, object-only, Child, level, Groups, Form, Read, nth, rows, row-of, allowed, only, bind-rows, many, none-left, record-at, constants-at, below, expr-at}
-use Rattle.rules.specs.FirstWalk.{an-identity, a-constant, a-variable, an-array, an-import, a-local, a-function, an-object, parts, expressions, argument, index-part, assertion, members, value-groups, value-allowed}
-use Rattle.rules.proofs.After.{After, fine, refused, after-bind, after-choose, after-many, after-weaken}
+use Rattle.rules.specs.FirstWalk.{Allowed, any-expression, function-only, object-only, Child, level, Groups, Form, Read, nth, rows, row-of, allowed, only, bind-rows, many, none-left, record-at, constants-at, below, expr-at, an-identity, a-constant, a-variable, an-array, an-import, a-local, a-function, an-object, parts, expressions, argument, index-part, assertion, members, value-groups, value-allowed, expr-item, holder-at, child-at, groups-at, bind-item, param-item, head-item, head-of}
+use Rattle.rules.proofs.After.{After, fine, after-bind, after-choose, after-many, after-weaken, after-both, after-self}
+use Rattle.rules.proofs.Outcomes.{bind-unit, bind-ext}
 use Rattle.bytes_skip.proofs.Reading.{Was, record-was, only-mark}
-use Rattle.rules.specs.FirstWalk.{expr-item, holder-at, child-at, groups-at, bind-item, param-item, head-item, head-of}
 use Rattle.bytes_skip.specs.Places.{past, judged-at, over, expected-at, expr-past, exprs-past, below-past, held-past}
 use Rattle.bytes_records.specs.Marks.{mark-of, find-mark, marks, children}
 use Rattle.bytes_records.specs.Constants.{is-some}
-use Rattle.tree.specs.Places.{lone, Lone, opened-at, bind-past, value-past, values-past}
-use Rattle.tree.specs.Places.{plain-past, array-past, extended-past, local-past, call-past, index-past, function-past, object-past}
+use Rattle.tree.specs.Places.{lone, Lone, opened-at, bind-past, value-past, values-past, plain-past, array-past, extended-past, local-past, call-past, index-past, function-past, object-past}
 use Rattle.bytes_records.proofs.Laws.{mark-code}
-use Rattle.bytes_skip.proofs.Binding.{past-read, past-then, past-put, past-after, past-many, past-list, over-one, bind-right, bind-ext}
+use Rattle.bytes_skip.proofs.Binding.{past-read, past-then, past-put, past-after, past-many, past-list, over-one}
 use Rattle.tree.proofs.Leaves.{expected-short, expected-other, expected-first}
 
 pub only-row : (m : Mark) (c : ℕ) → row-of c (only m) ≡ choose (eqb c (code m)) (λ _. some (m, tt)) (λ _. none)
@@ -33,7 +30,7 @@ unfolding row-of only
 only-row m c = refl
 
 module _ (s : List ℕ) where
-  -- the record with this mark at p, with the place behind it
+  -- the record with this mark at p, with the place after it
   abbrev pub got : {A : Type 0} → Mark → A → ℕ → ℕ → Read A
   got m row p q = record { mark = m; row = row; numbers = numbers-at s (numbers-of m) (p + 2); next = q }
 
@@ -107,14 +104,6 @@ module _ (s : List ℕ) where
       (one-level (judged-at s m p) (got m form p) (λ r. below s (expr-at s k) (r .row) r p) p g
       (λ q. subst (λ (l : ℕ). past (below s (expr-at s l) form (got m form p q) p) ≡ g q) down (h q)))
 
-  after-self : {A : Type 0} (o : Outcome A) → After (λ a. o ≡ ok a) o
-  after-self (ok a) = fine refl
-  after-self (refuse number place) = refused
-
-  after-both : {A : Type 0} {P Q : A → Type 0} {o : Outcome A} → After P o → After Q o → After (λ a. P a × Q a) o
-  after-both (fine h) (fine k) = fine (h, k)
-  after-both refused refused = refused
-
   -- What stands below a record, read with so many levels left
 
   module _ (nest : ℕ) where
@@ -133,7 +122,7 @@ module _ (s : List ℕ) where
 
     last-past : (n : ℕ) (c : Child) (f : ℕ → Outcome ℕ) → ((p : ℕ) → past (child-at s sub c p) ≡ f p) → (p : ℕ) → past (groups-at s sub ((n, c) ∷ []) p) ≡ over n f p
     last-past n c f h p =
-        group-past n c [] f h p ∙ bind-ext (over n f p) (λ q. past (groups-at s sub [] q)) (λ q. ok q) none-past ∙ bind-right (over n f p)
+        group-past n c [] f h p ∙ bind-ext (over n f p) (λ q. past (groups-at s sub [] q)) (λ q. ok q) none-past ∙ bind-unit (over n f p)
 
     level-past : (a : Allowed) (p : ℕ) → past (child-at s sub (level a) p) ≡ expr-past s nest a p
     unfolding child-at expr-past
@@ -286,7 +275,7 @@ module _ (s : List ℕ) where
 
       leaf-kind : (m : Mark) (form : Form) → row-of (code-at s p) (rows any-expression) ≡ some (m, form)
           → ((q : ℕ) → past (below s (expr-at s (nest - 1)) form (got m form p q) p) ≡ ok q) → opened-at s nest (code m) p ≡ past (expr-at s nest any-expression p)
-      leaf-kind m form e h = sym (expr-opened nest any-expression m form p (λ q. ok q) room e h ∙ bind-right (opened-at s nest (code m) p))
+      leaf-kind m form e h = sym (expr-opened nest any-expression m form p (λ q. ok q) room e h ∙ bind-unit (opened-at s nest (code m) p))
 
       pub expr-identity : code-at s p ≡ 0x4944 → opened-at s nest 0x4944 p ≡ past (expr-at s nest any-expression p)
       unfolding rows row-of choose code below past

@@ -9,8 +9,8 @@ use borrow.Author.Tests.{le-leb, lt-leb, eq-eqb, ne-eqb, lt-ltb}
 use Rattle.rules.specs.Outcome.{ok, refuse, need, _>>=_}
 use Rattle.rules.specs.Numbers.{code-at}
 use Rattle.rules.proofs.After.{after-ok}
-use Rattle.tree.specs.declared.Walk.{Walk}
-use Rattle.tree.specs.declared.Walk.the-variants.{Past, Refused}
+use Rattle.tree.specs.declared.FirstWalk.{FirstWalk}
+use Rattle.tree.specs.declared.FirstWalk.the-variants.{Past, Refused}
 use Rattle.tree.specs.Seen.{seen}
 use Rattle.bytes_records.specs.Marks.{mark-of}
 use Rattle.bytes_skip.specs.Places.{judged-at, expected-at, Within}
@@ -22,7 +22,7 @@ use Rattle.tree.proofs.Binding.{past-seen, stopped, apart, same-place}
 module _ (s : List ℕ) where
   -- A record that is opened
 
-  module _ (nest c p : ℕ) {w : Walk} (h : seen w ≡ judged-at s (mark-of c) p) where
+  module _ (nest c p : ℕ) {w : FirstWalk} (h : seen w ≡ judged-at s (mark-of c) p) where
     pub opened-refused : {number place : ℕ} → w ≡ Refused number place → Opened s nest c p w
     unfolding opened-at
     opened-refused e = record {
@@ -74,7 +74,7 @@ module _ (s : List ℕ) where
     pub expect-other : p + 2 ≤ length s → {m : ℕ} → m ≡ code-at s p → (m ≡ c → ⊥) → Expected s c p (Refused 2 p)
     expect-other room e ne = expected-refused (expected-other room (λ f. ne (e ∙ f)))
 
-    pub expect-first : p + 2 ≤ length s → {m : ℕ} → m ≡ code-at s p → m ≡ c → {w : Walk} → seen w ≡ judged-at s (mark-of c) p → Expected s c p w
+    pub expect-first : p + 2 ≤ length s → {m : ℕ} → m ≡ code-at s p → m ≡ c → {w : FirstWalk} → seen w ≡ judged-at s (mark-of c) p → Expected s c p w
     expect-first room e f h = record {
       same = h ∙ sym (expected-first room (sym e ∙ f));
       within = λ q g. after-ok (judged-within s c p) (sym (past-seen h g));

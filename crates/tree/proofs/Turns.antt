@@ -3,8 +3,8 @@ use Prim.Native.Nat.{ℕ, suc, _+_, _-_, _≤_, _<_}
 use mathlib.Core.Path.{_≡_, sym, subst}
 use native.Mathlib.Omega.{arith}
 use Rattle.rules.specs.Outcome.{Outcome, ok, refuse, _>>=_}
-use Rattle.tree.specs.declared.Walk.{Walk}
-use Rattle.tree.specs.declared.Walk.the-variants.{Past, Refused}
+use Rattle.tree.specs.declared.FirstWalk.{FirstWalk}
+use Rattle.tree.specs.declared.FirstWalk.the-variants.{Past, Refused}
 use Rattle.tree.specs.Seen.{seen}
 use Rattle.bytes_skip.specs.Places.{over}
 use Rattle.tree.proofs.Binding.{past-seen, refused-seen}
@@ -23,12 +23,12 @@ module _ (f : ℕ → Outcome ℕ) where
     unfolding over
     one-more lt = let e : n - i ≡ suc (n - (i + 1)) = omega arith in (rw e at (T .same))
 
-    pub turn-next : {r : Walk} {q : ℕ} → i < n → seen r ≡ f p → r ≡ Past q → Turn f w n (i + 1) q
+    pub turn-next : {r : FirstWalk} {q : ℕ} → i < n → seen r ≡ f p → r ≡ Past q → Turn f w n (i + 1) q
     unfolding _>>=_
     turn-next {q = q} lt h e =
         record { same = subst (λ (x : Outcome ℕ). (x >>= λ q. over (n - (i + 1)) f q) ≡ w) (sym (past-seen h e)) (one-more lt); turns = omega arith }
 
-    pub turn-stop : {r : Walk} {number place : ℕ} → i < n → seen r ≡ f p → r ≡ Refused number place → refuse number place ≡ w
+    pub turn-stop : {r : FirstWalk} {number place : ℕ} → i < n → seen r ≡ f p → r ≡ Refused number place → refuse number place ≡ w
     unfolding _>>=_
     turn-stop lt h e = subst (λ (x : Outcome ℕ). (x >>= λ q. over (n - (i + 1)) f q) ≡ w) (sym (refused-seen h e)) (one-more lt)
 

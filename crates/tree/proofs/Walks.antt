@@ -13,18 +13,18 @@ use Rattle.rules.specs.Numbers.{Mark, code, code-at, number-at, numbers-at, is-
 use Rattle.rules.specs.Records.{numbers-of}
 use Rattle.rules.specs.FirstWalk.{Form, any-expression, rows, row-of, constants-at, expr-at}
 use Rattle.rules.proofs.After.{chosen}
-use Rattle.tree.specs.declared.Walk.{Walk}
-use Rattle.tree.specs.declared.Walk.the-variants.{Past, Refused}
+use Rattle.rules.proofs.Outcomes.{Both, bind-got}
+use Rattle.rules.proofs.Flags.{set-of}
+use Rattle.tree.specs.declared.FirstWalk.{FirstWalk}
+use Rattle.tree.specs.declared.FirstWalk.the-variants.{Past, Refused}
 use Rattle.tree.specs.Seen.{seen}
 use Rattle.bytes_skip.specs.Places.{past, over, expected-at, expr-past, exprs-past, below-past, held-past}
 use Rattle.bytes_records.specs.Marks.{mark-of, children}
 use Rattle.bytes_records.specs.Constants.{is-some}
-use Rattle.tree.specs.Places.{Ends, lone, opened-at, bind-past, value-past, values-past}
-use Rattle.tree.specs.Places.{plain-past, array-past, extended-past, local-past, call-past, index-past, function-past, object-past}
+use Rattle.tree.specs.Places.{Ends, lone, opened-at, bind-past, value-past, values-past, plain-past, array-past, extended-past, local-past, call-past, index-past, function-past, object-past}
 use Rattle.bytes_skip.specs.Behind.{Behind}
-use Rattle.bytes_records.proofs.Laws.{All, _also_, numbers-part, is-set-nonzero}
+use Rattle.bytes_records.proofs.Laws.{All, _also_, numbers-part}
 use Rattle.tree.proofs.Binding.{past-seen, refused-seen, went, stopped}
-use Rattle.bytes_skip.proofs.Binding.{bind-ok, Both}
 use Rattle.bytes_skip.proofs.Heads.{head-fits}
 use Rattle.tree.proofs.Definition.{expr-other, bind-function, bind-value}
 
@@ -54,7 +54,7 @@ module _ (s : List ℕ) (nest at : ℕ) where
       → n ≡ children (mark-of mark) (numbers-at s (numbers-of (mark-of mark)) (at + 2))
   children-here mark e = e ∙ ap (children (mark-of mark)) (numbers-part s at (numbers-of (mark-of mark)) 2)
 
-  module _ {w : Walk} (mark : ℕ) where
+  module _ {w : FirstWalk} (mark : ℕ) where
     pub plain-refused : {number place : ℕ} → seen w ≡ opened-at s nest mark at → w ≡ Refused number place → seen w ≡ plain-past s nest mark at
     unfolding plain-past
     plain-refused h e = stopped h (below-past s (nest - 1) mark at) e
@@ -115,24 +115,24 @@ module _ (s : List ℕ) (nest at : ℕ) where
 
   -- Two steps below a record
 
-  module _ {w : Walk} {a : Outcome ℕ} (h : seen w ≡ a) (f g : ℕ → Outcome ℕ) where
+  module _ {w : FirstWalk} {a : Outcome ℕ} (h : seen w ≡ a) (f g : ℕ → Outcome ℕ) where
     first-refused : {number place : ℕ} → w ≡ Refused number place → seen w ≡ (a >>= λ q. f q >>= g)
     first-refused e = stopped h (λ q. f q >>= g) e
 
-    module _ {q : ℕ} (e : w ≡ Past q) {b : Walk} (k : seen b ≡ f q) where
+    module _ {q : ℕ} (e : w ≡ Past q) {b : FirstWalk} (k : seen b ≡ f q) where
       second-refused : {number place : ℕ} → b ≡ Refused number place → seen b ≡ (a >>= λ q. f q >>= g)
       second-refused d = stopped k g d ∙ went h (λ q. f q >>= g) e
 
       both-went : {x : Outcome ℕ} {t : ℕ} → b ≡ Past t → x ≡ g t → x ≡ (a >>= λ q. f q >>= g)
       both-went d l = l ∙ went k g d ∙ went h (λ q. f q >>= g) e
 
-  module _ {w : Walk} where
+  module _ {w : FirstWalk} where
     module _ (h : seen w ≡ opened-at s nest 0x4f58 at) where
       pub extended-refused : {number place : ℕ} → w ≡ Refused number place → seen w ≡ extended-past s nest at
       unfolding extended-past
       extended-refused e = first-refused h extended-base extended-object e
 
-      module _ {q : ℕ} (e : w ≡ Past q) {b : Walk} (k : seen b ≡ past (expr-at s (nest - 1) any-expression q)) where
+      module _ {q : ℕ} (e : w ≡ Past q) {b : FirstWalk} (k : seen b ≡ past (expr-at s (nest - 1) any-expression q)) where
         pub base-refused : {number place : ℕ} → b ≡ Refused number place → seen b ≡ extended-past s nest at
         unfolding extended-past expr-past
         base-refused d = second-refused h extended-base extended-object e k d
@@ -146,7 +146,7 @@ module _ (s : List ℕ) (nest at : ℕ) where
       unfolding local-past
       local-refused e = first-refused h local-binds (expr-past s (nest - 1) any-expression) e
 
-      module _ {q n : ℕ} (e : w ≡ Past q) (en : n ≡ number-at s (at + 2)) {b : Walk} (k : seen b ≡ over n (bind-past s (nest - 1)) q) where
+      module _ {q n : ℕ} (e : w ≡ Past q) (en : n ≡ number-at s (at + 2)) {b : FirstWalk} (k : seen b ≡ over n (bind-past s (nest - 1)) q) where
         pub binds-refused : {number place : ℕ} → b ≡ Refused number place → seen b ≡ local-past s nest at
         unfolding local-past
         binds-refused d = second-refused h local-binds (expr-past s (nest - 1) any-expression) e (counted (bind-past s (nest - 1)) _ k en) d
@@ -160,7 +160,7 @@ module _ (s : List ℕ) (nest at : ℕ) where
       unfolding function-past
       function-refused e = first-refused h function-params (expr-past s (nest - 1) any-expression) e
 
-      module _ {q n : ℕ} (e : w ≡ Past q) (en : n ≡ number-at s (at + 6)) {b : Walk} (k : seen b ≡ over n (held-past s (nest - 1) 0x5041) q) where
+      module _ {q n : ℕ} (e : w ≡ Past q) (en : n ≡ number-at s (at + 6)) {b : FirstWalk} (k : seen b ≡ over n (held-past s (nest - 1) 0x5041) q) where
         pub params-refused : {number place : ℕ} → b ≡ Refused number place → seen b ≡ function-past s nest at
         unfolding function-past
         params-refused d = second-refused h function-params (expr-past s (nest - 1) any-expression) e (counted (held-past s (nest - 1) 0x5041) _ k en) d
@@ -174,7 +174,7 @@ module _ (s : List ℕ) (nest at : ℕ) where
       unfolding call-past
       call-refused e = first-refused h call-values call-named e
 
-      module _ {q n : ℕ} (e : w ≡ Past q) (en : n ≡ number-at s (at + 2)) {b : Walk} (k : seen b ≡ exprs-past s (nest - 1) (1 + n) q) where
+      module _ {q n : ℕ} (e : w ≡ Past q) (en : n ≡ number-at s (at + 2)) {b : FirstWalk} (k : seen b ≡ exprs-past s (nest - 1) (1 + n) q) where
         pub values-refused : {number place : ℕ} → b ≡ Refused number place → seen b ≡ call-past s nest at
         unfolding call-past
         values-refused d = second-refused h call-values call-named e (k ∙ ap (λ (n : ℕ). exprs-past s (nest - 1) (1 + n) q) en) d
@@ -188,7 +188,7 @@ module _ (s : List ℕ) (nest at : ℕ) where
       unfolding index-past
       index-refused e = first-refused h (expr-past s (nest - 1) any-expression) index-parts e
 
-      module _ {q : ℕ} (e : w ≡ Past q) {b : Walk} (k : seen b ≡ past (expr-at s (nest - 1) any-expression q)) where
+      module _ {q : ℕ} (e : w ≡ Past q) {b : FirstWalk} (k : seen b ≡ past (expr-at s (nest - 1) any-expression q)) where
         pub value-refused : {number place : ℕ} → b ≡ Refused number place → seen b ≡ index-past s nest at
         unfolding index-past expr-past
         value-refused d = second-refused h (expr-past s (nest - 1) any-expression) index-parts e k d
@@ -229,7 +229,7 @@ module _ (s : List ℕ) (nest at : ℕ) where
         unfolding object-past
         after-opened = went h object-heads e
 
-        module _ {f : ℕ} (ef : f ≡ number-at s (at + 10)) {b : Walk} (kb : seen b ≡ over f (held-past s (nest - 1) 0x4648) q) where
+        module _ {f : ℕ} (ef : f ≡ number-at s (at + 10)) {b : FirstWalk} (kb : seen b ≡ over f (held-past s (nest - 1) 0x4648) q) where
           pub heads-refused : {number place : ℕ} → b ≡ Refused number place → seen b ≡ object-past s nest at
           heads-refused d = stopped (counted (held-past s (nest - 1) 0x4648) _ kb ef) (object-locals q) d ∙ after-opened
 
@@ -237,7 +237,7 @@ module _ (s : List ℕ) (nest at : ℕ) where
             after-heads : object-locals q u ≡ object-past s nest at
             after-heads = went (counted (held-past s (nest - 1) 0x4648) _ kb ef) (object-locals q) eb ∙ after-opened
 
-            module _ {l : ℕ} (el : l ≡ number-at s (at + 2)) {c : Walk} (kc : seen c ≡ over l (bind-past s (nest - 1)) u) where
+            module _ {l : ℕ} (el : l ≡ number-at s (at + 2)) {c : FirstWalk} (kc : seen c ≡ over l (bind-past s (nest - 1)) u) where
               pub locals-refused : {number place : ℕ} → c ≡ Refused number place → seen c ≡ object-past s nest at
               locals-refused d = stopped (counted (bind-past s (nest - 1)) _ kc el) (object-assertions q) d ∙ after-heads
 
@@ -245,7 +245,7 @@ module _ (s : List ℕ) (nest at : ℕ) where
                 after-locals : object-assertions q v ≡ object-past s nest at
                 after-locals = went (counted (bind-past s (nest - 1)) _ kc el) (object-assertions q) ec ∙ after-heads
 
-                module _ {a : ℕ} (ea : a ≡ number-at s (at + 6)) {d : Walk} (kd : seen d ≡ over a (held-past s (nest - 1) 0x4154) v) where
+                module _ {a : ℕ} (ea : a ≡ number-at s (at + 6)) {d : FirstWalk} (kd : seen d ≡ over a (held-past s (nest - 1) 0x4154) v) where
                   pub assertions-refused : {number place : ℕ} → d ≡ Refused number place → seen d ≡ object-past s nest at
                   assertions-refused g = stopped (counted (held-past s (nest - 1) 0x4154) _ kd ea) (object-values q) g ∙ after-locals
 
@@ -258,7 +258,7 @@ module _ (s : List ℕ) (nest at : ℕ) where
   pub bind-held : {m : ℕ} {x : Outcome ℕ} → m ≡ code-at s at → (m ≡ 0x4246 → ⊥) → x ≡ held-past s nest 0x4256 at → x ≡ bind-past s nest at
   bind-held e ne k = k ∙ sym (bind-value s nest at (λ f. ne (e ∙ f)))
 
-  module _ {m : ℕ} {w : Walk} (e : m ≡ code-at s at) (f : m ≡ 0x4246) (h : seen w ≡ expected-at s 0x4246 at) where
+  module _ {m : ℕ} {w : FirstWalk} (e : m ≡ code-at s at) (f : m ≡ 0x4246) (h : seen w ≡ expected-at s 0x4246 at) where
     pub bind-refused : {number place : ℕ} → w ≡ Refused number place → seen w ≡ bind-past s nest at
     bind-refused d = stopped h (λ q. expr-past s nest (lone 0x464e) q) d ∙ sym (bind-function s nest at (sym e ∙ f))
 
@@ -273,7 +273,7 @@ module _ (s : List ℕ) (nest at : ℕ) where
 
   pub value-method : (h : ℕ) {m : ℕ} {x : Outcome ℕ} → m ≡ number-at s (h + 22) → (m ≡ 0 → ⊥) → x ≡ expr-past s nest (lone 0x464e) at → x ≡ value-past s nest h at
   unfolding value-past choose lone code
-  value-method h e nz k = k ∙ rw (is-set-nonzero (number-at s (h + 22)) (λ z. nz (e ∙ z)))
+  value-method h e nz k = k ∙ rw (set-of (λ z. nz (e ∙ z)))
 
 -- Turns over values, with the heads beside them
 
@@ -292,12 +292,12 @@ module _ (s : List ℕ) (nest : ℕ) where
     values-end le = let e : n - i ≡ 0 = omega arith in (rw e at (T .same))
 
     module _ (lt : i < n) where
-      -- the head was read, and those behind it
+      -- the head was read, and those after it
       head-read : Both (held-past s nest 0x4648 head) (λ q. over (n - (i + 1)) (held-past s nest 0x4648) q) (T .heads .place)
       unfolding over
       head-read =
           let e : n - i ≡ suc (n - (i + 1)) = omega arith in
-          bind-ok (held-past s nest 0x4648 head) (λ q. over (n - (i + 1)) (held-past s nest 0x4648) q) (rw e at (T .heads .there))
+          bind-got (held-past s nest 0x4648 head) (λ q. over (n - (i + 1)) (held-past s nest 0x4648) q) (rw e at (T .heads .there))
 
       pub head-here : head + 26 ≤ length s
       head-here = head-fits s nest head (head-read .first)
@@ -308,11 +308,11 @@ module _ (s : List ℕ) (nest : ℕ) where
           let e : n - i ≡ suc (n - (i + 1)) = omega arith in
           (rw (e, head-read .first) at (T .same))
 
-      pub values-stop : {r : Walk} {number place : ℕ} → seen r ≡ value-past s nest head p → r ≡ Refused number place → refuse number place ≡ w
+      pub values-stop : {r : FirstWalk} {number place : ℕ} → seen r ≡ value-past s nest head p → r ≡ Refused number place → refuse number place ≡ w
       unfolding _>>=_
       values-stop h e = subst (λ (x : Outcome ℕ). (x >>= λ q. values-past s nest (n - (i + 1)) (head-read .middle) q) ≡ w) (sym (refused-seen h e)) values-more
 
-      pub values-next : {r : Walk} {q next : ℕ} → seen r ≡ value-past s nest head p → r ≡ Past q → Behind s head next → Values-turn s nest w n (i + 1) next q
+      pub values-next : {r : FirstWalk} {q next : ℕ} → seen r ≡ value-past s nest head p → r ≡ Past q → Behind s head next → Values-turn s nest w n (i + 1) next q
       unfolding _>>=_
       values-next {q = q} {next = next} h e b =
           let there : next ≡ head-read .middle = b nest (head-read .middle) (head-read .first) in

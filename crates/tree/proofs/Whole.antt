@@ -1,4 +1,4 @@
--- The whole tree: its head, its externals' names, its one expression, and nothing behind it. Assumes nothing.
+-- The whole tree: its head, its externals' names, its one expression, and nothing after it. Assumes nothing.
 use Prim.Native.Nat.{ℕ, _+_, _*_, _≤_, _<_}
 use mathlib.Core.List.{List}
 use mathlib.Core.Path.{_≡_, refl, sym, ap, _∙_}
@@ -10,8 +10,8 @@ use Rattle.rules.specs.Numbers.{JT, code, number-at, numbers-at}
 use Rattle.rules.specs.Records.{numbers-of, widths, width, fields}
 use Rattle.rules.specs.Tree.{Tree}
 use Rattle.rules.specs.FirstWalk.{any-expression, only, nth, expr-at, tree-at}
-use Rattle.tree.specs.declared.Walk.{Walk}
-use Rattle.tree.specs.declared.Walk.the-variants.{Past, Refused}
+use Rattle.tree.specs.declared.FirstWalk.{FirstWalk}
+use Rattle.tree.specs.declared.FirstWalk.the-variants.{Past, Refused}
 use Rattle.tree.specs.Seen.{seen, ended}
 use Rattle.bytes_skip.specs.Places.{past, expected-at}
 use Rattle.tree.proofs.Binding.{went, stopped}
@@ -58,7 +58,7 @@ module _ (s : List ℕ) where
       ended-past (length s) (expr-at s 200 any-expression (p + 4 * number-at s 2)) _ end-past (λ a.
       ended-bind (length s) (need (eqb (a .1) (length s)) 5 (a .1)) _ (λ _. ok (length s)) (λ _. refl))))))
 
-  module _ {w : Walk} (h : seen w ≡ expected-at s 0x4a54 0) where
+  module _ {w : FirstWalk} (h : seen w ≡ expected-at s 0x4a54 0) where
     pub tree-refused : {number place : ℕ} → w ≡ Refused number place → seen w ≡ ended (length s) (tree-at s)
     unfolding code
     tree-refused e = stopped h head-past e ∙ sym tree-past
@@ -90,7 +90,7 @@ module _ (s : List ℕ) where
             unfolding need _>>=_
             root-went = let fit : p + 4 * number-at s 2 ≤ length s = (rw root-is at room) in rw root-is (rw (le-leb _ _ fit) at names-went)
 
-            module _ {x : Walk} (k : seen x ≡ past (expr-at s 200 any-expression (p + 4 * m))) where
+            module _ {x : FirstWalk} (k : seen x ≡ past (expr-at s 200 any-expression (p + 4 * m))) where
               pub root-refused : {number place : ℕ} → x ≡ Refused number place → seen x ≡ ended (length s) (tree-at s)
               root-refused d = stopped k end-past d ∙ root-went
 

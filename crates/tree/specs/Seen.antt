@@ -1,11 +1,11 @@
--- What the first walk's answers mean: the place behind, or the refusal. Assumes nothing.
+-- What the first walk's answers mean: the place after, or the refusal. Assumes nothing.
 use Prim.Native.Nat.{ℕ}
 use Rattle.rules.specs.Outcome.{Outcome, ok, refuse}
 use Rattle.rules.specs.Tree.{Tree}
-use Rattle.tree.specs.declared.Walk.{Walk}
-use Rattle.tree.specs.declared.Walk.the-variants.{Past, Refused}
+use Rattle.tree.specs.declared.FirstWalk.{FirstWalk}
+use Rattle.tree.specs.declared.FirstWalk.the-variants.{Past, Refused}
 
-abbrev pub seen : Walk → Outcome ℕ
+abbrev pub seen : FirstWalk → Outcome ℕ
 seen (Past place) = ok place
 seen (Refused number place) = refuse number place
 

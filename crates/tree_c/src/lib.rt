@@ -4,7 +4,7 @@ ghost use lib.ListN.{length};
 ghost use Rattle.rules.specs.FirstWalk.{tree-at};
 ghost use Rattle.tree.specs.Seen.{ended};
 ghost use Rattle.tree_c.specs.Answer.{number-of};
-use tree::Walk;
+use tree::FirstWalk;
 
 // The refusal's number, 0 where the tree is accepted.
 #[no_mangle]
@@ -13,7 +13,7 @@ pub extern "C" fn tsilmogar_first_walk(tree: &[u8]) -> u32
 {
     let walk = tree::first_walk(tree);
     match walk {
-        Walk::Past(_) => 0,
-        Walk::Refused(number, _) => number,
+        FirstWalk::Past(_) => 0,
+        FirstWalk::Refused(number, _) => number,
     }
 }

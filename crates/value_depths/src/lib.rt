@@ -4,7 +4,10 @@ ghost use Prim.Native.Nat.{min, max};
 ghost use Rattle.rules.specs.Depths.{no-dependence, taint-by, depend-on-local, depend-on-object, same-result};
 ghost use Rattle.value_depths.specs.Meaning.{result};
 
-// The outermost object, the outermost local and the innermost local; 4294967295 and 0 where there is none.
+// No depth: nothing depends on it, or it is not used.
+pub const NEVER: u32 = 4294967295;
+
+// The outermost object, the outermost local and the innermost local; `NEVER` and 0 where there is none.
 pub struct AnalysisResult {
     pub object_dependent_depth: u32,
     pub local_dependent_depth: u32,
@@ -28,8 +31,8 @@ impl AnalysisResult {
         ensures { λ r. ⌜ result r ≡ no-dependence ⌝ }
     {
         AnalysisResult {
-            object_dependent_depth: 4294967295,
-            local_dependent_depth: 4294967295,
+            object_dependent_depth: NEVER,
+            local_dependent_depth: NEVER,
             local_dependent_depth_max: 0,
         }
     }

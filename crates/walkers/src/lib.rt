@@ -1,17 +1,17 @@
 // The walkers of the analysis: expressions, functions and objects, which call one another over the packed tree. `nest` levels are left
-// for what a walker is given; all of them have the six lent buffers, the limits and the state, which goes by value.
+// for what a walker is given; all of them have the six buffers that the caller passed in, the limits and the state, which goes by value.
 ghost use mathlib.Core.Path.{_≡_};
 ghost use Prim.Native.Nat.{ℕ, _+_, _-_, _<_, _≤_};
 ghost use lib.ListN.{length};
 ghost use Rattle.rules.specs.Numbers as rules;
 ghost use Rattle.rules.specs.FirstWalk.{any-expression, expr-at};
 ghost use Rattle.rules.specs.Walk as walk;
-ghost use Rattle.state.specs.Seen.{buffers};
+ghost use Rattle.state.specs.Seen.{held, before, after, was};
 ghost use Rattle.state.specs.Walks.{place-of, naming-of, Walks, Walks-specs};
 ghost use Rattle.law_runs.specs.Run.{Accepted, items-at, binds-at, params-at, heads-at, values-at};
 ghost use Rattle.law_runs.specs.Run.{run-expr, run-items, run-assertions, run-values, run-heads, run-binds, run-params};
 ghost use Rattle.law_runs.specs.Steps.{first-defaults};
-ghost use Rattle.law_joins.specs.Ready.{not-opened, no-value, no-spec, not-kept, Ready, There, Plain-there, Held-there, Members-there, Fields-there, fields-steps, members-steps};
+ghost use Rattle.law_joins.specs.Ready.{Ready, There, Plain-there, Held-there, Members-there, Fields-there, fields-steps, members-steps};
 use bytes_read::mark_at;
 use bytes_read::number_at;
 use bytes_records::AR;
@@ -23,8 +23,10 @@ use bytes_records::OB;
 use bytes_records::PT;
 use bytes_records::children;
 use bytes_records::constants;
+use bytes_records::offsets;
 use bytes_records::size_of;
 use bytes_skip::after_head;
+use settling::LoopKind;
 use state::AnalysisStack;
 use state::Limits;
 use state::Naming;
@@ -32,6 +34,10 @@ use state::Place;
 use state::Specs;
 use state::Step;
 use state::Walked;
+use state::none_kept;
+use state::specs_to;
+use state::walked_past;
+use state::walked_to;
 use step_close::finish_function;
 use step_close::finish_local;
 use step_close::finish_object;
@@ -64,52 +70,15 @@ use value_depths::AnalysisResult;
 // Whether the first of n parameters has a default.
 fn first_defaults(tree: &[u8], at: usize, n: u32) -> bool
     requires { ⌜ (length (now tree) ≤ 16777216) × (0 < n → at + 14 ≤ length (now tree)) ⌝ }
-    ensures { λ r. ⌜ r ≡ first-defaults (now (tree .entry)) n at ⌝ }
+    ensures { λ r. ⌜ r ≡ first-defaults (was tree) n at ⌝ }
 {
     if n == 0 {
         return false;
     }
-    if number_at(tree, at + 10) == 0 {
+    if number_at(tree, at + offsets::PA_DEFAULT) == 0 {
         return false;
     }
     true
-}
-
-// A refusal, as the answer that is asked for.
-fn not_opened(step: Step) -> Walked
-    ensures { λ r. ⌜ r ≡ not-opened step ⌝ }
-{
-    match step {
-        Step::Ok(st) => Walked::To(st, 0),
-        Step::Refused(number, place) => Walked::Refused(number, place),
-    }
-}
-
-fn no_value(step: Step) -> Specs
-    ensures { λ r. ⌜ r ≡ no-value step ⌝ }
-{
-    match step {
-        Step::Ok(st) => Specs::To(st, 0, 0),
-        Step::Refused(number, place) => Specs::Refused(number, place),
-    }
-}
-
-fn no_spec(w: Walked) -> Specs
-    ensures { λ r. ⌜ r ≡ no-spec w ⌝ }
-{
-    match w {
-        Walked::To(st, next) => Specs::To(st, next, 0),
-        Walked::Refused(number, place) => Specs::Refused(number, place),
-    }
-}
-
-fn not_kept(specs: Specs) -> Walked
-    ensures { λ r. ⌜ r ≡ not-kept specs ⌝ }
-{
-    match specs {
-        Specs::To(st, next, _) => Walked::To(st, next),
-        Specs::Refused(number, place) => Walked::Refused(number, place),
-    }
 }
 
 // The expression at a place, with `nest` levels left for it and what stands below it.
@@ -128,9 +97,11 @@ pub fn analyze(
     naming: Naming,
     here: Place,
 ) -> Walked
-    requires { ⌜ Ready limits (buffers (now out) (now diagnostics) (now locals) (now frames) (now captures) (now references)) st (now tree) at nest here ⌝ }
+    requires { ⌜ Ready limits (held out diagnostics locals frames captures references) st (now tree) at nest here ⌝ }
     requires { ⌜ Accepted (expr-at (now tree) nest any-expression at) ⌝ }
-    ensures { λ r. ⌜ (Walks r limits (buffers (now (out .entry)) (now (diagnostics .entry)) (now (locals .entry)) (now (frames .entry)) (now (captures .entry)) (now (references .entry))) (buffers (now (out .exit)) (now (diagnostics .exit)) (now (locals .exit)) (now (frames .exit)) (now (captures .exit)) (now (references .exit))) st (λ limits σ. run-expr (now (tree .entry)) limits nest at (naming-of naming) (place-of here) σ)) ⌝ }
+    ensures { λ r. ⌜ (Walks r limits (before out diagnostics locals frames captures references)
+        (after out diagnostics locals frames captures references) st
+        (λ limits σ. run-expr (was tree) limits nest at (naming-of naming) (place-of here) σ)) ⌝ }
 {
     let mark = mark_at(tree, at);
     if is_leaf(mark) {
@@ -242,9 +213,11 @@ fn on_plain(
     mark: u32,
     here: Place,
 ) -> Walked
-    requires { ⌜ Ready limits (buffers (now out) (now diagnostics) (now locals) (now frames) (now captures) (now references)) st (now tree) at nest here ⌝ }
+    requires { ⌜ Ready limits (held out diagnostics locals frames captures references) st (now tree) at nest here ⌝ }
     requires { ⌜ Plain-there (now tree) nest mark at ⌝ }
-    ensures { λ r. ⌜ ((ν : walk.Naming) → Walks r limits (buffers (now (out .entry)) (now (diagnostics .entry)) (now (locals .entry)) (now (frames .entry)) (now (captures .entry)) (now (references .entry))) (buffers (now (out .exit)) (now (diagnostics .exit)) (now (locals .exit)) (now (frames .exit)) (now (captures .exit)) (now (references .exit))) st (λ limits σ. run-expr (now (tree .entry)) limits nest at ν (place-of here) σ)) ⌝ }
+    ensures { λ r. ⌜ ((ν : walk.Naming) → Walks r limits (before out diagnostics locals frames captures references)
+        (after out diagnostics locals frames captures references) st
+        (λ limits σ. run-expr (was tree) limits nest at ν (place-of here) σ)) ⌝ }
 {
     let n = children(&tree[at..], mark);
     let below = at + size_of(mark);
@@ -284,17 +257,19 @@ fn on_array(
     nest: u32,
     here: Place,
 ) -> Walked
-    requires { ⌜ Ready limits (buffers (now out) (now diagnostics) (now locals) (now frames) (now captures) (now references)) st (now tree) at nest here ⌝ }
+    requires { ⌜ Ready limits (held out diagnostics locals frames captures references) st (now tree) at nest here ⌝ }
     requires { ⌜ There (now tree) nest rules.AR at ⌝ }
-    ensures { λ r. ⌜ ((ν : walk.Naming) → Walks r limits (buffers (now (out .entry)) (now (diagnostics .entry)) (now (locals .entry)) (now (frames .entry)) (now (captures .entry)) (now (references .entry))) (buffers (now (out .exit)) (now (diagnostics .exit)) (now (locals .exit)) (now (frames .exit)) (now (captures .exit)) (now (references .exit))) st (λ limits σ. run-expr (now (tree .entry)) limits nest at ν (place-of here) σ)) ⌝ }
+    ensures { λ r. ⌜ ((ν : walk.Naming) → Walks r limits (before out diagnostics locals frames captures references)
+        (after out diagnostics locals frames captures references) st
+        (λ limits σ. run-expr (was tree) limits nest at ν (place-of here) σ)) ⌝ }
 {
-    let n = number_at(tree, at + 2);
-    if constants(tree, at + 6, n as usize) {
+    let n = number_at(tree, at + offsets::AR_COUNT);
+    if constants(tree, at + offsets::AR_SIZE, n as usize) {
         return emit_constants(tree, out, st, at, n as usize);
     }
     let opened = open_frame(frames, limits, st, at, false);
     let Step::Ok(inside) = opened else {
-        return not_opened(opened);
+        return walked_to(opened, 0);
     };
     let w = on_items(
         tree,
@@ -306,7 +281,7 @@ fn on_array(
         references,
         limits,
         inside,
-        at + 6,
+        at + offsets::AR_SIZE,
         nest - 1,
         n as usize,
         here,
@@ -332,11 +307,13 @@ fn on_local(
     nest: u32,
     here: Place,
 ) -> Walked
-    requires { ⌜ Ready limits (buffers (now out) (now diagnostics) (now locals) (now frames) (now captures) (now references)) st (now tree) at nest here ⌝ }
+    requires { ⌜ Ready limits (held out diagnostics locals frames captures references) st (now tree) at nest here ⌝ }
     requires { ⌜ There (now tree) nest rules.LO at ⌝ }
-    ensures { λ r. ⌜ ((ν : walk.Naming) → Walks r limits (buffers (now (out .entry)) (now (diagnostics .entry)) (now (locals .entry)) (now (frames .entry)) (now (captures .entry)) (now (references .entry))) (buffers (now (out .exit)) (now (diagnostics .exit)) (now (locals .exit)) (now (frames .exit)) (now (captures .exit)) (now (references .exit))) st (λ limits σ. run-expr (now (tree .entry)) limits nest at ν (place-of here) σ)) ⌝ }
+    ensures { λ r. ⌜ ((ν : walk.Naming) → Walks r limits (before out diagnostics locals frames captures references)
+        (after out diagnostics locals frames captures references) st
+        (λ limits σ. run-expr (was tree) limits nest at ν (place-of here) σ)) ⌝ }
 {
-    let n = number_at(tree, at + 2);
+    let n = number_at(tree, at + offsets::LO_COUNT);
     if n == 0 {
         return analyze(
             tree,
@@ -348,7 +325,7 @@ fn on_local(
             references,
             limits,
             st,
-            at + 6,
+            at + offsets::LO_SIZE,
             nest - 1,
             Naming::Unnamed,
             here,
@@ -379,16 +356,16 @@ fn on_local(
         references,
         limits,
         inside,
-        at + 6,
+        at + offsets::LO_SIZE,
         nest - 1,
         n,
         0,
         here,
     );
     let Specs::To(known, body, kept) = specs else {
-        return not_kept(specs);
+        return walked_past(specs);
     };
-    let settled = settle_frame(locals, references, known, kept, before);
+    let settled = settle_frame(locals, references, known, kept, before, LoopKind::Analysis);
     let w = analyze(
         tree,
         out,
@@ -439,11 +416,13 @@ fn on_function(
     naming: Naming,
     here: Place,
 ) -> Walked
-    requires { ⌜ Ready limits (buffers (now out) (now diagnostics) (now locals) (now frames) (now captures) (now references)) st (now tree) at nest here ⌝ }
+    requires { ⌜ Ready limits (held out diagnostics locals frames captures references) st (now tree) at nest here ⌝ }
     requires { ⌜ There (now tree) nest rules.FN at ⌝ }
-    ensures { λ r. ⌜ (Walks r limits (buffers (now (out .entry)) (now (diagnostics .entry)) (now (locals .entry)) (now (frames .entry)) (now (captures .entry)) (now (references .entry))) (buffers (now (out .exit)) (now (diagnostics .exit)) (now (locals .exit)) (now (frames .exit)) (now (captures .exit)) (now (references .exit))) st (λ limits σ. run-expr (now (tree .entry)) limits nest at (naming-of naming) (place-of here) σ)) ⌝ }
+    ensures { λ r. ⌜ (Walks r limits (before out diagnostics locals frames captures references)
+        (after out diagnostics locals frames captures references) st
+        (λ limits σ. run-expr (was tree) limits nest at (naming-of naming) (place-of here) σ)) ⌝ }
 {
-    let n = number_at(tree, at + 6);
+    let n = number_at(tree, at + offsets::FN_COUNT);
     let before = st.references;
     let begun = begin_function(
         tree,
@@ -469,15 +448,15 @@ fn on_function(
         references,
         limits,
         inside,
-        at + 10,
+        at + offsets::FN_SIZE,
         nest - 1,
         n,
         here,
     );
     let Specs::To(known, body, kept) = specs else {
-        return not_kept(specs);
+        return walked_past(specs);
     };
-    let settled = settle_frame(locals, references, known, kept, before);
+    let settled = settle_frame(locals, references, known, kept, before, LoopKind::Analysis);
     let w = analyze(
         tree,
         out,
@@ -496,9 +475,9 @@ fn on_function(
     let Walked::To(after, next) = w else {
         return w;
     };
-    let defaults = first_defaults(tree, at + 10, n);
+    let defaults = first_defaults(tree, at + offsets::FN_SIZE, n);
     let function = FunctionEnd {
-        span: number_at(tree, at + 2),
+        span: number_at(tree, at + offsets::FN_SPAN),
         start: st.out,
         body_start: known.out,
         kept: kept,
@@ -536,11 +515,13 @@ fn on_object(
     nest: u32,
     here: Place,
 ) -> Walked
-    requires { ⌜ Ready limits (buffers (now out) (now diagnostics) (now locals) (now frames) (now captures) (now references)) st (now tree) at nest here ⌝ }
+    requires { ⌜ Ready limits (held out diagnostics locals frames captures references) st (now tree) at nest here ⌝ }
     requires { ⌜ There (now tree) nest rules.OB at ⌝ }
-    ensures { λ r. ⌜ ((ν : walk.Naming) → Walks r limits (buffers (now (out .entry)) (now (diagnostics .entry)) (now (locals .entry)) (now (frames .entry)) (now (captures .entry)) (now (references .entry))) (buffers (now (out .exit)) (now (diagnostics .exit)) (now (locals .exit)) (now (frames .exit)) (now (captures .exit)) (now (references .exit))) st (λ limits σ. run-expr (now (tree .entry)) limits nest at ν (place-of here) σ)) ⌝ }
+    ensures { λ r. ⌜ ((ν : walk.Naming) → Walks r limits (before out diagnostics locals frames captures references)
+        (after out diagnostics locals frames captures references) st
+        (λ limits σ. run-expr (was tree) limits nest at ν (place-of here) σ)) ⌝ }
 {
-    let fields = number_at(tree, at + 10);
+    let fields = number_at(tree, at + offsets::OB_FIELDS);
     let heads = on_heads(
         tree,
         out,
@@ -551,7 +532,7 @@ fn on_object(
         references,
         limits,
         st,
-        at + 14,
+        at + offsets::OB_SIZE,
         nest - 1,
         fields,
         here,
@@ -576,7 +557,8 @@ fn on_object(
     )
 }
 
-// What stands behind the heads of the object at `object`: its binds, which stand here, assertions and values.
+// What stands after the heads of the object at `object`: its binds, which stand here, assertions and values. The state is ready for a place
+// before the binds by the object's own record, whose 14 bytes pay for the rounds of its frame.
 fn on_members(
     tree: &[u8],
     out: &mut [u8],
@@ -592,11 +574,13 @@ fn on_members(
     object: usize,
     here: Place,
 ) -> Walked
-    requires { ⌜ Ready limits (buffers (now out) (now diagnostics) (now locals) (now frames) (now captures) (now references)) st (now tree) (at - 14) nest here ⌝ }
+    requires { ⌜ Ready limits (held out diagnostics locals frames captures references) st (now tree) (at - 14) nest here ⌝ }
     requires { ⌜ Members-there (now tree) nest at object ⌝ }
-    ensures { λ r. ⌜ (Walks r limits (buffers (now (out .entry)) (now (diagnostics .entry)) (now (locals .entry)) (now (frames .entry)) (now (captures .entry)) (now (references .entry))) (buffers (now (out .exit)) (now (diagnostics .exit)) (now (locals .exit)) (now (frames .exit)) (now (captures .exit)) (now (references .exit))) st (λ limits σ. members-steps (now (tree .entry)) limits nest at object (place-of here) σ)) ⌝ }
+    ensures { λ r. ⌜ (Walks r limits (before out diagnostics locals frames captures references)
+        (after out diagnostics locals frames captures references) st
+        (λ limits σ. members-steps (was tree) limits nest at object (place-of here) σ)) ⌝ }
 {
-    let n = number_at(tree, object + 2);
+    let n = number_at(tree, object + offsets::OB_BINDS);
     let before = st.references;
     let inside = in_object(here, st.locals);
     let begun = begin_object(
@@ -631,9 +615,9 @@ fn on_members(
         inside,
     );
     let Specs::To(known, assertions, kept) = specs else {
-        return not_kept(specs);
+        return walked_past(specs);
     };
-    let settled = settle_frame(locals, references, known, kept, before);
+    let settled = settle_frame(locals, references, known, kept, before, LoopKind::Analysis);
     let w = on_fields(
         tree,
         out,
@@ -652,15 +636,15 @@ fn on_members(
     let Walked::To(after, next) = w else {
         return w;
     };
-    let fields = number_at(tree, object + 10);
+    let fields = number_at(tree, object + offsets::OB_FIELDS);
     let end = ObjectEnd {
         outermost: !here.in_object,
         self_used: st.self_used,
         super_used: st.super_used,
         kept: kept,
-        assertions: number_at(tree, object + 6),
+        assertions: number_at(tree, object + offsets::OB_ASSERTIONS),
         values: fields,
-        is_static: is_static(tree, object + 14, fields),
+        is_static: is_static(tree, object + offsets::OB_SIZE, fields),
     };
     finish_object(
         out,
@@ -694,9 +678,11 @@ fn on_fields(
     object: usize,
     here: Place,
 ) -> Walked
-    requires { ⌜ Ready limits (buffers (now out) (now diagnostics) (now locals) (now frames) (now captures) (now references)) st (now tree) at nest here ⌝ }
+    requires { ⌜ Ready limits (held out diagnostics locals frames captures references) st (now tree) at nest here ⌝ }
     requires { ⌜ Fields-there (now tree) nest object at ⌝ }
-    ensures { λ r. ⌜ (Walks r limits (buffers (now (out .entry)) (now (diagnostics .entry)) (now (locals .entry)) (now (frames .entry)) (now (captures .entry)) (now (references .entry))) (buffers (now (out .exit)) (now (diagnostics .exit)) (now (locals .exit)) (now (frames .exit)) (now (captures .exit)) (now (references .exit))) st (λ limits σ. fields-steps (now (tree .entry)) limits nest object at (place-of here) σ)) ⌝ }
+    ensures { λ r. ⌜ (Walks r limits (before out diagnostics locals frames captures references)
+        (after out diagnostics locals frames captures references) st
+        (λ limits σ. fields-steps (was tree) limits nest object at (place-of here) σ)) ⌝ }
 {
     let w = on_assertions(
         tree,
@@ -710,7 +696,7 @@ fn on_fields(
         st,
         at,
         nest,
-        number_at(tree, object + 6),
+        number_at(tree, object + offsets::OB_ASSERTIONS),
         here,
     );
     let Walked::To(after, values) = w else {
@@ -728,8 +714,8 @@ fn on_fields(
         after,
         values,
         nest,
-        number_at(tree, object + 10),
-        object + 14,
+        number_at(tree, object + offsets::OB_FIELDS),
+        object + offsets::OB_SIZE,
         here,
     )
 }
@@ -749,43 +735,15 @@ fn on_item(
     nest: u32,
     here: Place,
 ) -> Walked
-    requires { ⌜ Ready limits (buffers (now out) (now diagnostics) (now locals) (now frames) (now captures) (now references)) st (now tree) at nest here ⌝ }
+    requires { ⌜ Ready limits (held out diagnostics locals frames captures references) st (now tree) at nest here ⌝ }
     requires { ⌜ Accepted (items-at (now tree) nest 1 at) ⌝ }
-    ensures { λ r. ⌜ (Walks r limits (buffers (now (out .entry)) (now (diagnostics .entry)) (now (locals .entry)) (now (frames .entry)) (now (captures .entry)) (now (references .entry))) (buffers (now (out .exit)) (now (diagnostics .exit)) (now (locals .exit)) (now (frames .exit)) (now (captures .exit)) (now (references .exit))) st (λ limits σ. run-items (now (tree .entry)) limits nest 1 at (place-of here) σ)) ⌝ }
+    ensures { λ r. ⌜ (Walks r limits (before out diagnostics locals frames captures references)
+        (after out diagnostics locals frames captures references) st
+        (λ limits σ. run-items (was tree) limits nest 1 at (place-of here) σ)) ⌝ }
 {
     let mark = mark_at(tree, at);
     match mark {
-        NA => on_held(
-            tree,
-            out,
-            diagnostics,
-            locals,
-            frames,
-            captures,
-            references,
-            limits,
-            st,
-            at,
-            nest,
-            mark,
-            here,
-        ),
-        PT => on_held(
-            tree,
-            out,
-            diagnostics,
-            locals,
-            frames,
-            captures,
-            references,
-            limits,
-            st,
-            at,
-            nest,
-            mark,
-            here,
-        ),
-        AT => on_held(
+        NA | PT | AT => on_held(
             tree,
             out,
             diagnostics,
@@ -834,9 +792,11 @@ fn on_held(
     mark: u32,
     here: Place,
 ) -> Walked
-    requires { ⌜ Ready limits (buffers (now out) (now diagnostics) (now locals) (now frames) (now captures) (now references)) st (now tree) at nest here ⌝ }
+    requires { ⌜ Ready limits (held out diagnostics locals frames captures references) st (now tree) at nest here ⌝ }
     requires { ⌜ Held-there (now tree) nest mark at ⌝ }
-    ensures { λ r. ⌜ (Walks r limits (buffers (now (out .entry)) (now (diagnostics .entry)) (now (locals .entry)) (now (frames .entry)) (now (captures .entry)) (now (references .entry))) (buffers (now (out .exit)) (now (diagnostics .exit)) (now (locals .exit)) (now (frames .exit)) (now (captures .exit)) (now (references .exit))) st (λ limits σ. run-items (now (tree .entry)) limits nest 1 at (place-of here) σ)) ⌝ }
+    ensures { λ r. ⌜ (Walks r limits (before out diagnostics locals frames captures references)
+        (after out diagnostics locals frames captures references) st
+        (λ limits σ. run-items (was tree) limits nest 1 at (place-of here) σ)) ⌝ }
 {
     let n = children(&tree[at..], mark);
     let first = analyze(
@@ -849,7 +809,7 @@ fn on_held(
         references,
         limits,
         st,
-        at + 6,
+        at + offsets::HELD_SIZE,
         nest,
         Naming::Unnamed,
         here,
@@ -897,9 +857,11 @@ fn on_items(
     n: usize,
     here: Place,
 ) -> Walked
-    requires { ⌜ Ready limits (buffers (now out) (now diagnostics) (now locals) (now frames) (now captures) (now references)) st (now tree) at nest here ⌝ }
+    requires { ⌜ Ready limits (held out diagnostics locals frames captures references) st (now tree) at nest here ⌝ }
     requires { ⌜ Accepted (items-at (now tree) nest n at) ⌝ }
-    ensures { λ r. ⌜ (Walks r limits (buffers (now (out .entry)) (now (diagnostics .entry)) (now (locals .entry)) (now (frames .entry)) (now (captures .entry)) (now (references .entry))) (buffers (now (out .exit)) (now (diagnostics .exit)) (now (locals .exit)) (now (frames .exit)) (now (captures .exit)) (now (references .exit))) st (λ limits σ. run-items (now (tree .entry)) limits nest n at (place-of here) σ)) ⌝ }
+    ensures { λ r. ⌜ (Walks r limits (before out diagnostics locals frames captures references)
+        (after out diagnostics locals frames captures references) st
+        (λ limits σ. run-items (was tree) limits nest n at (place-of here) σ)) ⌝ }
 {
     let mut state = st;
     let mut p = at;
@@ -968,16 +930,18 @@ fn on_assertions(
     n: u32,
     here: Place,
 ) -> Walked
-    requires { ⌜ Ready limits (buffers (now out) (now diagnostics) (now locals) (now frames) (now captures) (now references)) st (now tree) at nest here ⌝ }
+    requires { ⌜ Ready limits (held out diagnostics locals frames captures references) st (now tree) at nest here ⌝ }
     requires { ⌜ Accepted (items-at (now tree) nest n at) ⌝ }
-    ensures { λ r. ⌜ (Walks r limits (buffers (now (out .entry)) (now (diagnostics .entry)) (now (locals .entry)) (now (frames .entry)) (now (captures .entry)) (now (references .entry))) (buffers (now (out .exit)) (now (diagnostics .exit)) (now (locals .exit)) (now (frames .exit)) (now (captures .exit)) (now (references .exit))) st (λ limits σ. run-assertions (now (tree .entry)) limits nest n at (place-of here) σ)) ⌝ }
+    ensures { λ r. ⌜ (Walks r limits (before out diagnostics locals frames captures references)
+        (after out diagnostics locals frames captures references) st
+        (λ limits σ. run-assertions (was tree) limits nest n at (place-of here) σ)) ⌝ }
 {
     if n == 0 {
         return Walked::To(st, at);
     }
     let opened = open_frame(frames, limits, st, at, false);
     let Step::Ok(inside) = opened else {
-        return not_opened(opened);
+        return walked_to(opened, 0);
     };
     let w = on_items(
         tree,
@@ -1015,12 +979,14 @@ fn on_head(
     nest: u32,
     here: Place,
 ) -> Walked
-    requires { ⌜ Ready limits (buffers (now out) (now diagnostics) (now locals) (now frames) (now captures) (now references)) st (now tree) at nest here ⌝ }
+    requires { ⌜ Ready limits (held out diagnostics locals frames captures references) st (now tree) at nest here ⌝ }
     requires { ⌜ Accepted (heads-at (now tree) nest 1 at) ⌝ }
-    ensures { λ r. ⌜ (Walks r limits (buffers (now (out .entry)) (now (diagnostics .entry)) (now (locals .entry)) (now (frames .entry)) (now (captures .entry)) (now (references .entry))) (buffers (now (out .exit)) (now (diagnostics .exit)) (now (locals .exit)) (now (frames .exit)) (now (captures .exit)) (now (references .exit))) st (λ limits σ. run-heads (now (tree .entry)) limits nest 1 at (place-of here) σ)) ⌝ }
+    ensures { λ r. ⌜ (Walks r limits (before out diagnostics locals frames captures references)
+        (after out diagnostics locals frames captures references) st
+        (λ limits σ. run-heads (was tree) limits nest 1 at (place-of here) σ)) ⌝ }
 {
-    if number_at(tree, at + 2) == 0 {
-        return emit_head(tree, out, st, at, at + 26);
+    if number_at(tree, at + offsets::FH_KIND) == 0 {
+        return emit_head(tree, out, st, at, at + offsets::FH_SIZE);
     }
     let w = analyze(
         tree,
@@ -1032,7 +998,7 @@ fn on_head(
         references,
         limits,
         st,
-        at + 26,
+        at + offsets::FH_SIZE,
         nest,
         Naming::Unnamed,
         here,
@@ -1059,9 +1025,11 @@ fn on_heads(
     n: u32,
     here: Place,
 ) -> Walked
-    requires { ⌜ Ready limits (buffers (now out) (now diagnostics) (now locals) (now frames) (now captures) (now references)) st (now tree) at nest here ⌝ }
+    requires { ⌜ Ready limits (held out diagnostics locals frames captures references) st (now tree) at nest here ⌝ }
     requires { ⌜ Accepted (heads-at (now tree) nest n at) ⌝ }
-    ensures { λ r. ⌜ (Walks r limits (buffers (now (out .entry)) (now (diagnostics .entry)) (now (locals .entry)) (now (frames .entry)) (now (captures .entry)) (now (references .entry))) (buffers (now (out .exit)) (now (diagnostics .exit)) (now (locals .exit)) (now (frames .exit)) (now (captures .exit)) (now (references .exit))) st (λ limits σ. run-heads (now (tree .entry)) limits nest n at (place-of here) σ)) ⌝ }
+    ensures { λ r. ⌜ (Walks r limits (before out diagnostics locals frames captures references)
+        (after out diagnostics locals frames captures references) st
+        (λ limits σ. run-heads (was tree) limits nest n at (place-of here) σ)) ⌝ }
 {
     let mut state = st;
     let mut p = at;
@@ -1111,13 +1079,15 @@ fn on_value(
     head: usize,
     here: Place,
 ) -> Walked
-    requires { ⌜ Ready limits (buffers (now out) (now diagnostics) (now locals) (now frames) (now captures) (now references)) st (now tree) at nest here ⌝ }
+    requires { ⌜ Ready limits (held out diagnostics locals frames captures references) st (now tree) at nest here ⌝ }
     requires { ⌜ Accepted (values-at (now tree) nest 1 head at) ⌝ }
-    ensures { λ r. ⌜ (Walks r limits (buffers (now (out .entry)) (now (diagnostics .entry)) (now (locals .entry)) (now (frames .entry)) (now (captures .entry)) (now (references .entry))) (buffers (now (out .exit)) (now (diagnostics .exit)) (now (locals .exit)) (now (frames .exit)) (now (captures .exit)) (now (references .exit))) st (λ limits σ. run-values (now (tree .entry)) limits nest 1 head at (place-of here) σ)) ⌝ }
+    ensures { λ r. ⌜ (Walks r limits (before out diagnostics locals frames captures references)
+        (after out diagnostics locals frames captures references) st
+        (λ limits σ. run-values (was tree) limits nest 1 head at (place-of here) σ)) ⌝ }
 {
     let opened = open_frame(frames, limits, st, at, false);
     let Step::Ok(inside) = opened else {
-        return not_opened(opened);
+        return walked_to(opened, 0);
     };
     let w = analyze(
         tree,
@@ -1157,9 +1127,11 @@ fn on_values(
     heads: usize,
     here: Place,
 ) -> Walked
-    requires { ⌜ Ready limits (buffers (now out) (now diagnostics) (now locals) (now frames) (now captures) (now references)) st (now tree) at nest here ⌝ }
+    requires { ⌜ Ready limits (held out diagnostics locals frames captures references) st (now tree) at nest here ⌝ }
     requires { ⌜ Accepted (values-at (now tree) nest n heads at) ⌝ }
-    ensures { λ r. ⌜ (Walks r limits (buffers (now (out .entry)) (now (diagnostics .entry)) (now (locals .entry)) (now (frames .entry)) (now (captures .entry)) (now (references .entry))) (buffers (now (out .exit)) (now (diagnostics .exit)) (now (locals .exit)) (now (frames .exit)) (now (captures .exit)) (now (references .exit))) st (λ limits σ. run-values (now (tree .entry)) limits nest n heads at (place-of here) σ)) ⌝ }
+    ensures { λ r. ⌜ (Walks r limits (before out diagnostics locals frames captures references)
+        (after out diagnostics locals frames captures references) st
+        (λ limits σ. run-values (was tree) limits nest n heads at (place-of here) σ)) ⌝ }
 {
     let mut state = st;
     let mut p = at;
@@ -1213,13 +1185,15 @@ fn on_bind(
     kept: u32,
     here: Place,
 ) -> Specs
-    requires { ⌜ Ready limits (buffers (now out) (now diagnostics) (now locals) (now frames) (now captures) (now references)) st (now tree) at nest here ⌝ }
+    requires { ⌜ Ready limits (held out diagnostics locals frames captures references) st (now tree) at nest here ⌝ }
     requires { ⌜ Accepted (binds-at (now tree) nest 1 at) × (kept ≤ 16777216) × (base ≤ 1) ⌝ }
-    ensures { λ r. ⌜ (Walks-specs r limits (buffers (now (out .entry)) (now (diagnostics .entry)) (now (locals .entry)) (now (frames .entry)) (now (captures .entry)) (now (references .entry))) (buffers (now (out .exit)) (now (diagnostics .exit)) (now (locals .exit)) (now (frames .exit)) (now (captures .exit)) (now (references .exit))) st (λ limits σ. run-binds (now (tree .entry)) limits nest 1 at base kept (place-of here) σ)) ⌝ }
+    ensures { λ r. ⌜ (Walks-specs r limits (before out diagnostics locals frames captures references)
+        (after out diagnostics locals frames captures references) st
+        (λ limits σ. run-binds (was tree) limits nest 1 at base kept (place-of here) σ)) ⌝ }
 {
     let opened = open_value(frames, limits, st, at);
     let Step::Ok(inside) = opened else {
-        return no_value(opened);
+        return specs_to(opened, 0, 0);
     };
     let w = analyze(
         tree,
@@ -1231,13 +1205,13 @@ fn on_bind(
         references,
         limits,
         inside,
-        at + 10,
+        at + offsets::BIND_SIZE,
         nest,
         bind_naming(tree, at),
         here,
     );
     let Walked::To(after, next) = w else {
-        return no_spec(w);
+        return none_kept(w);
     };
     close_spec(
         out,
@@ -1274,9 +1248,11 @@ fn on_binds(
     base: u32,
     here: Place,
 ) -> Specs
-    requires { ⌜ Ready limits (buffers (now out) (now diagnostics) (now locals) (now frames) (now captures) (now references)) st (now tree) at nest here ⌝ }
+    requires { ⌜ Ready limits (held out diagnostics locals frames captures references) st (now tree) at nest here ⌝ }
     requires { ⌜ Accepted (binds-at (now tree) nest n at) × (base ≤ 1) ⌝ }
-    ensures { λ r. ⌜ (Walks-specs r limits (buffers (now (out .entry)) (now (diagnostics .entry)) (now (locals .entry)) (now (frames .entry)) (now (captures .entry)) (now (references .entry))) (buffers (now (out .exit)) (now (diagnostics .exit)) (now (locals .exit)) (now (frames .exit)) (now (captures .exit)) (now (references .exit))) st (λ limits σ. run-binds (now (tree .entry)) limits nest n at base 0 (place-of here) σ)) ⌝ }
+    ensures { λ r. ⌜ (Walks-specs r limits (before out diagnostics locals frames captures references)
+        (after out diagnostics locals frames captures references) st
+        (λ limits σ. run-binds (was tree) limits nest n at base 0 (place-of here) σ)) ⌝ }
 {
     let mut state = st;
     let mut p = at;
@@ -1330,12 +1306,14 @@ fn on_param(
     kept: u32,
     here: Place,
 ) -> Specs
-    requires { ⌜ Ready limits (buffers (now out) (now diagnostics) (now locals) (now frames) (now captures) (now references)) st (now tree) at nest here ⌝ }
+    requires { ⌜ Ready limits (held out diagnostics locals frames captures references) st (now tree) at nest here ⌝ }
     requires { ⌜ Accepted (params-at (now tree) nest 1 at) × (kept ≤ 16777216) ⌝ }
-    ensures { λ r. ⌜ (Walks-specs r limits (buffers (now (out .entry)) (now (diagnostics .entry)) (now (locals .entry)) (now (frames .entry)) (now (captures .entry)) (now (references .entry))) (buffers (now (out .exit)) (now (diagnostics .exit)) (now (locals .exit)) (now (frames .exit)) (now (captures .exit)) (now (references .exit))) st (λ limits σ. run-params (now (tree .entry)) limits nest 1 at kept (place-of here) σ)) ⌝ }
+    ensures { λ r. ⌜ (Walks-specs r limits (before out diagnostics locals frames captures references)
+        (after out diagnostics locals frames captures references) st
+        (λ limits σ. run-params (was tree) limits nest 1 at kept (place-of here) σ)) ⌝ }
 {
-    let name = number_at(tree, at + 2);
-    if number_at(tree, at + 10) == 0 {
+    let name = number_at(tree, at + offsets::PA_NAME);
+    if number_at(tree, at + offsets::PA_DEFAULT) == 0 {
         let mut fresh = st;
         fresh.taint = AnalysisResult::no_dependence();
         return record_spec_init(
@@ -1351,12 +1329,12 @@ fn on_param(
             st.out,
             st.taint,
             Spec::Param(name, 0),
-            at + 14,
+            at + offsets::PA_SIZE,
         );
     }
     let opened = open_value(frames, limits, st, at);
     let Step::Ok(inside) = opened else {
-        return no_value(opened);
+        return specs_to(opened, 0, 0);
     };
     let w = analyze(
         tree,
@@ -1368,13 +1346,13 @@ fn on_param(
         references,
         limits,
         inside,
-        at + 14,
+        at + offsets::PA_SIZE,
         nest,
         Naming::Unnamed,
         here,
     );
     let Walked::To(after, next) = w else {
-        return no_spec(w);
+        return none_kept(w);
     };
     close_spec(
         out,
@@ -1410,9 +1388,11 @@ fn on_params(
     n: u32,
     here: Place,
 ) -> Specs
-    requires { ⌜ Ready limits (buffers (now out) (now diagnostics) (now locals) (now frames) (now captures) (now references)) st (now tree) at nest here ⌝ }
+    requires { ⌜ Ready limits (held out diagnostics locals frames captures references) st (now tree) at nest here ⌝ }
     requires { ⌜ Accepted (params-at (now tree) nest n at) ⌝ }
-    ensures { λ r. ⌜ (Walks-specs r limits (buffers (now (out .entry)) (now (diagnostics .entry)) (now (locals .entry)) (now (frames .entry)) (now (captures .entry)) (now (references .entry))) (buffers (now (out .exit)) (now (diagnostics .exit)) (now (locals .exit)) (now (frames .exit)) (now (captures .exit)) (now (references .exit))) st (λ limits σ. run-params (now (tree .entry)) limits nest n at 0 (place-of here) σ)) ⌝ }
+    ensures { λ r. ⌜ (Walks-specs r limits (before out diagnostics locals frames captures references)
+        (after out diagnostics locals frames captures references) st
+        (λ limits σ. run-params (was tree) limits nest n at 0 (place-of here) σ)) ⌝ }
 {
     let mut state = st;
     let mut p = at;

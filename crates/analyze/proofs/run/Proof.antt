@@ -13,7 +13,7 @@ run-spec =
     (tie.spec
     (λ c κs. search needs)  -- enter-requires
     (λ c. search needs)  -- enum-told
-    (λ c κs.  -- analyze-root-requires
+    (λ c κs.  -- walk-root-requires
     let args· = c .before .before .before .before .before .before .before .before .before .before .before .before .before .before .before .before .before .before .before .before .args in
     let b = buffers (args· .out .now) (args· .diagnostics .now) (args· .locals .now) (args· .frames .now) (args· .captures .now) (args· .references .now) in
     rooted (args· .tree .now) b (args· .limits) (c .before .before .before .before .before .before .before .before .enter .ensures (args· .out .now) (args· .diagnostics .now)) (c .before .before .before .before .before .before .enum-told .given .1))
@@ -24,7 +24,7 @@ run-spec =
     (λ c. search needs)  -- same-length-4
     (λ c. search needs)  -- same-length-5
     (λ c. search needs)  -- same-length-6
-    (λ c. c .before .before .before .before .before .before .before .before .before .before .before .before .analyze-root .ensures)  -- returns
+    (λ c. c .before .before .before .before .before .before .before .before .before .before .before .before .walk-root .ensures)  -- returns
     (λ c. search needs)  -- same-length-7
     (λ c. search needs)  -- same-length-8
     (λ c. search needs)  -- same-length-9

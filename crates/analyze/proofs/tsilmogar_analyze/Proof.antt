@@ -3,16 +3,12 @@ use Rattle.analyze.proofs.Laws.{told, nine-numbers}
 use borrow.Author.Needs.{needs}
 use Rattle.analyze.proofs.tsilmogar_analyze.Statement.{statement}
 use Rattle.analyze.proofs.tsilmogar_analyze.Tie as tie
-use Rattle.analyze.proofs.tsilmogar_analyze.Reads as reads
-use Rattle.analyze.proofs.tsilmogar_analyze.Lts as lts
-use Rattle.analyze.proofs.analyze.Reads as analyze-reads
-use Rattle.analyze.proofs.errored_number.Reads as errored-number-reads
 
 pub tsilmogar-analyze-spec : {M : Type 1} → statement M
 tsilmogar-analyze-spec =
     tie.close
     (tie.spec
-    (λ c κs. search needs)  -- analyze-requires
+    (λ c κs. search needs)  -- analyze-root-requires
     (λ c. search needs)  -- cast-t27
     (λ c κs. search needs)  -- errored-number-requires
     (λ c. search needs)  -- cast-t32
@@ -25,6 +21,6 @@ tsilmogar-analyze-spec =
     (λ c. search needs)  -- same-length-5
     (λ c. search needs)  -- same-length-6
     (λ c.  -- returns
-    let analyze· = c .before .before .before .before .before .before .before .before .before .before .before .before .before .before .before .before .before .before .analyze in
+    let analyze· = c .before .before .before .before .before .before .before .before .before .before .before .before .before .before .before .before .before .before .analyze-root in
     let errored-number· = c .before .before .before .before .errored-number in
     told (analyze· .result) (analyze· .ensures) (nine-numbers (analyze· .result) (errored-number· .ensures))))

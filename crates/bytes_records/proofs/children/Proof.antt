@@ -1,9 +1,8 @@
 -- `bytes_records::children` meets its contract. Each arm computes by its mark; a mark of no arm is one for which the last answer is right. Assumes nothing.
 use mathlib.Core.Path.{_≡_, refl}
 use Rattle.rules.specs.Outcome.{choose}
-use Rattle.rules.specs.Numbers.{Mark, code}
+use Rattle.rules.specs.Numbers.{Mark, code, numbers-at}
 use Rattle.bytes_records.specs.Marks.{mark-of, find-mark, marks, children}
-use Rattle.rules.specs.Numbers.{numbers-at}
 use Rattle.rules.specs.Records.{numbers-of, widths, width, fields}
 use Rattle.bytes_records.proofs.Laws.{mark-all, all-none, _also_}
 use borrow.Author.Needs.{needs}

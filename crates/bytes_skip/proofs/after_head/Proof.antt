@@ -1,4 +1,4 @@
--- `bytes_skip::after_head` meets its contract. A fixed name ends with the head; behind a computed one `skip` goes where reading went. Assumes nothing.
+-- `bytes_skip::after_head` meets its contract. A fixed name ends with the head; after a computed one `skip` goes where reading went. Assumes nothing.
 use mathlib.Core.Path.{sym, _∙_}
 use Rattle.bytes_skip.proofs.Heads.{head-fixed, head-computed}
 use borrow.Author.Needs.{needs}

@@ -1,8 +1,7 @@
 -- `put_number` stores the four bytes of a number. Assumes nothing.
 use native.Mathlib.Numerals.{towards-suc}
-use native.Mathlib.Numerals.{add-one}
 use Rattle.rules.specs.Numbers.{number-bytes}
-use lib.ListN.{length, length-set}
+use lib.ListN.{length-set}
 use native.Mathlib.Omega.{arith}
 use borrow.Author.Needs.{needs}
 use Rattle.bytes_write.proofs.put_number.Statement.{statement}

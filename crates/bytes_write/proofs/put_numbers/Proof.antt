@@ -1,15 +1,11 @@
 -- `put_numbers` stores all numbers. The invariant: the first i are stored, and the length is as it was. Assumes nothing.
-use Rattle.rules.specs.Numbers.{number-bytes}
-use lib.ListN.{getD}
+use Rattle.rules.specs.Numbers.{number-bytes, numbers-bytes}
+use lib.ListN.{getD, take, length}
 use mathlib.Core.List.{List}
 use Rattle.bytes_write.proofs.Laws.{numbers-more}
-use Rattle.rules.specs.Numbers.{numbers-bytes}
 use lib.Seq.{sets, length-sets, take-length}
-use lib.ListN.{take}
 use Prim.Native.Nat.{ℕ, _+_, _*_, _≤_, _-_}
-use mathlib.Core.Path.{_≡_, refl, sym, ap, _∙_}
-use lib.ListN.{length}
-use borrow.Author.Needs.{needs}
+use mathlib.Core.Path.{_≡_, refl, ap, _∙_}
 use native.Mathlib.Omega.{arith}
 use Rattle.bytes_write.proofs.put_numbers.Statement.{statement}
 use Rattle.bytes_write.proofs.put_numbers.Tie as tie

@@ -1,11 +1,7 @@
--- `put_record` puts a record behind what was used, or answers that it has no room. Assumes nothing.
-use Rattle.rules.specs.Numbers.{numbers-bytes}
-use mathlib.Core.List.{_∷_}
-use Prim.Native.Nat.{_+_, _≤_}
-use lib.ListN.{getD}
+-- `put_record` puts a record after what was used, or answers that it has no room. Assumes nothing.
+use lib.ListN.{getD, length, length-set}
 use lib.Seq.{length-sets}
 use Rattle.bytes_write.proofs.Laws.{length-numbers-bytes, put-stored}
-use lib.ListN.{length, length-set}
 use mathlib.Core.Path.{refl, ap, _∙_}
 use native.Mathlib.Omega.{arith}
 use borrow.Author.Needs.{needs}

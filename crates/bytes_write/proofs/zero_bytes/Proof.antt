@@ -3,11 +3,9 @@ use mathlib.Core.List.{List}
 use native.Mathlib.Nat.{sub-self}
 use Rattle.bytes_write.proofs.Laws.{zeros-more, zeros-end}
 use lib.Seq.{sets, length-sets}
-use lib.ListN.{replicate}
-use Prim.Native.Nat.{ℕ, _≤_, _-_, _+_}
+use lib.ListN.{replicate, length}
+use Prim.Native.Nat.{ℕ, _≤_, _-_}
 use mathlib.Core.Path.{_≡_, refl, sym, ap, _∙_}
-use lib.ListN.{length}
-use borrow.Author.Needs.{needs}
 use native.Mathlib.Omega.{arith}
 use Rattle.bytes_write.proofs.zero_bytes.Statement.{statement}
 use Rattle.bytes_write.proofs.zero_bytes.Tie as tie

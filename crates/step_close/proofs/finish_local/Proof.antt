@@ -13,13 +13,13 @@ finish-local-spec =
     (λ c. search needs)  -- enum-known-finished
     (λ c. search needs)  -- slice-aggregate-emit
     (λ c κs. search needs)  -- emit-requires
-    (λ c κs. search needs)  -- behind-requires
+    (λ c κs. search needs)  -- walked-to-requires
     (λ c. search needs)  -- enum-known-finished-2
     (λ c. search needs)  -- same-length
     (λ c. search needs)  -- same-length-2
     (λ c. search needs)  -- same-length-3
     (λ c. search needs)  -- same-length-4
-    (λ c. local-finished _ _ _ _ (c .before .before .before .before .before .before .before .before .before .before .before .before .before .before .before .before .before .before .finish-frame .ensures) (c .before .before .before .before .before .before .before .before .finished .given .1) (c .before .before .before .before .before .before .before .before .before .before .before .before .before .before .before .before .before .before .finish-frame .kept .0) (c .before .before .before .before .before .before .before .before .before .before .before .before .before .before .before .before .before .before .finish-frame .kept .1 .0) (c .before .before .before .emit .ensures) (placed _ (c .behind .ensures)))  -- returns
+    (λ c. local-finished _ _ _ _ (c .before .before .before .before .before .before .before .before .before .before .before .before .before .before .before .before .before .before .finish-frame .ensures) (c .before .before .before .before .before .before .before .before .finished .given .1) (c .before .before .before .before .before .before .before .before .before .before .before .before .before .before .before .before .before .before .finish-frame .kept .0) (c .before .before .before .before .before .before .before .before .before .before .before .before .before .before .before .before .before .before .finish-frame .kept .1 .0) (c .before .before .before .emit .ensures) (placed _ (c .walked-to .ensures)))  -- returns
     (λ c. search needs)  -- same-length-5
     (λ c. search needs)  -- same-length-6
     (λ c. search needs)  -- same-length-7

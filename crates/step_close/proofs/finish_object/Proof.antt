@@ -12,13 +12,13 @@ finish-object-spec =
     (λ c κs. search needs)  -- finish-frame-requires
     (λ c. search needs)  -- enum-known-finished
     (λ c κs. search needs)  -- leave-object-requires
-    (λ c κs. search needs)  -- behind-requires
+    (λ c κs. search needs)  -- walked-to-requires
     (λ c. search needs)  -- enum-known-finished-2
     (λ c. search needs)  -- same-length
     (λ c. search needs)  -- same-length-2
     (λ c. search needs)  -- same-length-3
     (λ c. search needs)  -- same-length-4
-    (λ c. object-finished _ _ _ _ (c .before .before .before .before .before .before .before .before .before .before .before .before .before .before .before .before .finish-frame .ensures) (c .before .before .before .before .before .before .finished .given .1) (c .before .before .before .before .before .before .before .before .before .before .before .before .before .before .before .before .finish-frame .kept .0) (c .before .before .before .before .before .before .before .before .before .before .before .before .before .before .before .before .finish-frame .kept .1 .0) _ _ _ _ _ _ (c .before .before .before .leave-object .ensures) (placed _ (c .behind .ensures)))  -- returns
+    (λ c. object-finished _ _ _ _ (c .before .before .before .before .before .before .before .before .before .before .before .before .before .before .before .before .finish-frame .ensures) (c .before .before .before .before .before .before .finished .given .1) (c .before .before .before .before .before .before .before .before .before .before .before .before .before .before .before .before .finish-frame .kept .0) (c .before .before .before .before .before .before .before .before .before .before .before .before .before .before .before .before .finish-frame .kept .1 .0) _ _ _ _ _ _ (c .before .before .before .leave-object .ensures) (placed _ (c .walked-to .ensures)))  -- returns
     (λ c. search needs)  -- same-length-5
     (λ c. search needs)  -- same-length-6
     (λ c. search needs)  -- same-length-7

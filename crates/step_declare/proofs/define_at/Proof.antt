@@ -1,4 +1,4 @@
--- `step_declare::define_at` meets its contract: name and span stand 2 and 6 bytes behind the record's place. Assumes nothing.
+-- `step_declare::define_at` meets its contract: name and span stand 2 and 6 bytes after the record's place. Assumes nothing.
 use native.Mathlib.Omega.{arith}
 use Rattle.step_declare.proofs.Laws.{define-asks, named-so}
 use borrow.Author.Needs.{needs}

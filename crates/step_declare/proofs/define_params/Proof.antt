@@ -1,8 +1,7 @@
 -- `step_declare::define_params` meets its contract. The loop's invariant: what is left, from here, gives what the whole gives. Assumes nothing.
 use Prim.Native.Nat.{_-_}
 use native.Mathlib.Omega.{arith}
-use Rattle.step_declare.proofs.Turns.{Defining, ParamsRead, params-run, params-on, params-refuse, defining-begin, defining-next, defining-stop, defining-end, left-more, still-fitting}
-use Rattle.step_declare.proofs.Reading.{first-param, no-param}
+use Rattle.step_declare.proofs.Turns.{Defining, ParamsRead, params-run, params-on, param-there, defining-next, params-needs}
 use borrow.Author.Needs.{needs}
 use Rattle.step_declare.proofs.define_params.Statement.{statement}
 use Rattle.step_declare.proofs.define_params.Tie as tie
@@ -20,59 +19,20 @@ define-params-spec =
     (tie.spec
     Inv-loop
     μ-loop
-    (λ c.  -- loop-holds
-    let args· = c .before .before .before .before .args in
-    let pre· = c .before .before .before .before .pre in
-    defining-begin (args· .tree .now) (ParamsRead (args· .tree .now)) (params-run (args· .tree .now)) _ _ _ _ _ _ _ _ (pre· .2))
-    (λ c κs.  -- define-at-requires
-    let args· = c .before .before .before .before .before .before .before .before .before .args in
-    let pre· = c .before .before .before .before .before .before .before .before .before .pre in
-    let loop· = c .before .before .before .before .loop in
-    let loop-test· = c .before .before .before .loop-test in
-    (omega (arith, first-param (args· .tree .now) (pre· .0 .levels) _ _ (left-more (args· .tree .now) (ParamsRead (args· .tree .now)) (params-run (args· .tree .now)) (loop· .inv) (loop-test· .taken) (pre· .0 .levels) (pre· .0 .read)) .fits), pre· .1, loop· .inv .still-open, still-fitting (args· .tree .now) (ParamsRead (args· .tree .now)) (params-run (args· .tree .now)) (loop· .inv) (pre· .3)))
-    (λ c. search needs)  -- enum-known-step
-    (λ c. search needs)  -- enum-known-step-2
-    (λ c. search needs)  -- same-length
-    (λ c. search needs)  -- same-length-2
-    (λ c. search needs)  -- same-length-3
-    (λ c.  -- returns
-    let args· = c .before .before .before .before .before .before .before .before .before .before .before .before .before .before .before .before .before .before .before .args in
-    let loop· = c .before .before .before .before .before .before .before .before .before .before .before .before .before .before .loop in
-    let loop-test· = c .before .before .before .before .before .before .before .before .before .before .before .before .before .loop-test in
-    let define-at· = c .before .before .before .before .before .before .before .before .before .define-at in
-    let step2· = c .before .step2 in
-    record { defined = λ levels read out captures references f. defining-stop (args· .tree .now) (ParamsRead (args· .tree .now)) (params-run (args· .tree .now)) (loop· .inv) (loop-test· .taken) (params-refuse (args· .tree .now) _) (define-at· .ensures) _ _ (step2· .given .1) levels read out captures references })
-    (λ c κs.  -- after-param-requires
-    let args· = c .before .before .before .before .before .before .before .before .before .before .before .before .before .before .before .before .before .before .before .args in
-    let pre· = c .before .before .before .before .before .before .before .before .before .before .before .before .before .before .before .before .before .before .before .pre in
-    let loop· = c .before .before .before .before .before .before .before .before .before .before .before .before .before .before .loop in
-    let loop-test· = c .before .before .before .before .before .before .before .before .before .before .before .before .before .loop-test in
-    first-param (args· .tree .now) (pre· .0 .levels) _ _ (left-more (args· .tree .now) (ParamsRead (args· .tree .now)) (params-run (args· .tree .now)) (loop· .inv) (loop-test· .taken) (pre· .0 .levels) (pre· .0 .read)) .fits)
-    (λ c.  -- add-i
-    let loop-test· = c .before .before .before .before .before .before .before .before .before .before .before .before .before .before .loop-test in
-    let fits· = c .before .before .before .before .before .before .before .before .before .before .before .before .before .before .before .before .before .before .before .before .fits in
-    omega (arith, loop-test· .taken, fits· .n))
-    (λ c.  -- loop-less
-    let loop-test· = c .before .before .before .before .before .before .before .before .before .before .before .before .before .before .loop-test in
-    omega (arith, loop-test· .taken))
-    (λ c.  -- loop-again
-    let args· = c .before .before .before .before .before .before .before .before .before .before .before .before .before .before .before .before .before .before .before .before .args in
-    let loop· = c .before .before .before .before .before .before .before .before .before .before .before .before .before .before .before .loop in
-    let loop-test· = c .before .before .before .before .before .before .before .before .before .before .before .before .before .before .loop-test in
-    let after-param· = c .after-param in
-    let define-at· = c .before .before .before .before .before .before .before .before .before .before .define-at in
-    let step· = c .before .before .step in
-    defining-next (args· .tree .now) (ParamsRead (args· .tree .now)) (params-run (args· .tree .now)) (loop· .inv) (loop-test· .taken) (params-on (args· .tree .now) _ _ (after-param· .ensures)) (define-at· .ensures) (step· .given .1) (search needs) (search needs) (search needs))
-    (λ c.  -- same-length-4
-    let loop· = c .before .loop in
-    loop· .inv .diagnostics-same)
-    (λ c.  -- same-length-5
-    let loop· = c .before .loop in
-    loop· .inv .locals-same)
-    (λ c.  -- same-length-6
-    let loop· = c .before .loop in
-    loop· .inv .frames-same)
-    (λ c.  -- returns-2
-    let args· = c .before .before .before .before .before .before .args in
-    let loop· = c .before .loop in
-    record { defined = λ levels read out captures references f. defining-end (args· .tree .now) (ParamsRead (args· .tree .now)) (params-run (args· .tree .now)) (loop· .inv) (search needs) (λ levels p. no-param (args· .tree .now) levels p) levels read out captures references f }))
+    (λ c. search params-needs)  -- loop-holds
+    (λ c κs. search params-needs)  -- define-at-requires
+    (λ c. search params-needs)  -- enum-known-step
+    (λ c. search params-needs)  -- enum-known-step-2
+    (λ c. search params-needs)  -- same-length
+    (λ c. search params-needs)  -- same-length-2
+    (λ c. search params-needs)  -- same-length-3
+    (λ c. search params-needs)  -- returns
+    (λ c κs. param-there (c .before .before .before .before .before .before .before .before .before .before .before .before .before .before .loop .inv) (c .before .before .before .before .before .before .before .before .before .before .before .before .before .loop-test .taken) (c .before .before .before .before .before .before .before .before .before .before .before .before .before .before .before .before .before .before .before .pre .0))  -- after-param-requires
+    (λ c. omega (arith, c .before .before .before .before .before .before .before .before .before .before .before .before .before .before .loop-test .taken, c .before .before .before .before .before .before .before .before .before .before .before .before .before .before .before .before .before .before .before .before .fits .n))  -- add-i
+    (λ c. omega (arith, c .before .before .before .before .before .before .before .before .before .before .before .before .before .before .loop-test .taken))  -- loop-less
+    (λ c. defining-next _ _ _ (c .before .before .before .before .before .before .before .before .before .before .before .before .before .before .before .loop .inv) (c .before .before .before .before .before .before .before .before .before .before .before .before .before .before .loop-test .taken) (params-on _ _ _ (c .after-param .ensures)) (c .before .before .before .before .before .before .before .before .before .before .define-at .ensures) (c .before .before .step .given .1) (search needs) (search needs) (search needs))  -- loop-again
+    (λ c. search params-needs)  -- same-length-4
+    (λ c. search params-needs)  -- same-length-5
+    (λ c. search params-needs)  -- same-length-6
+    (λ c. search params-needs)  -- returns-2
+    )

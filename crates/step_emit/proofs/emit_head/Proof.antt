@@ -17,7 +17,7 @@ emit-head-spec =
     (λ c κs. search needs)  -- number-at-requires-3
     (λ c. search needs)  -- slice-aggregate-emit
     (λ c κs. search needs)  -- emit-requires
-    (λ c κs. search needs)  -- behind-requires
+    (λ c κs. search needs)  -- walked-to-requires
     (λ c. search needs)  -- same-length
-    (λ c. head-emitted _ (c .before .before .before .emit .ensures) (c .behind .ensures) (c .before .before .before .before .before .before .before .before .before .before .number-at .ensures) (c .before .before .before .before .before .before .before .before .before .head-name .ensures) (c .before .before .before .before .before .before .before .before .number-at2 .ensures) (c .before .before .before .before .before .before .before .number-at3 .ensures))  -- returns
+    (λ c. head-emitted _ (c .before .before .before .emit .ensures) (c .walked-to .ensures) (c .before .before .before .before .before .before .before .before .before .before .number-at .ensures) (c .before .before .before .before .before .before .before .before .before .head-name .ensures) (c .before .before .before .before .before .before .before .before .number-at2 .ensures) (c .before .before .before .before .before .before .before .number-at3 .ensures))  -- returns
     )

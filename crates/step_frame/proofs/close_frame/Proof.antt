@@ -16,13 +16,13 @@ close-frame-spec =
     (λ c κs. (c .before .before .before .before .before .before .pre, omega (arith, c .before .before .if1 .left)))  -- put-shape-requires
     (λ c. search needs)  -- enum-known-written
     (λ c. search needs)  -- sub-after
-    (λ c κs. (c .before .before .before .before .before .before .before .before .before .before .before .before .before .pre, omega (arith, c .before .before .before .before .before .before .before .before .before .if1 .left)))  -- close-frame-requires
+    (λ c κs. (c .before .before .before .before .before .before .before .before .before .before .before .before .before .pre, omega (arith, c .before .before .before .before .before .before .before .before .before .if1 .left)))  -- pop-frame-requires
     (λ c. search needs)  -- enum-told
     (λ c. search needs)  -- same-length-2
     (λ c. search needs)  -- same-length-3
     (λ c.  -- returns-2
     let shape = rw (c .before .before .before .before .before .written .given .1) at (c .before .before .before .before .before .before .before .before .before .put-shape .ensures) in
-    frame-closed _ _ _ _ _ _ _ _ _ (c .before .before .before .before .before .before .before .before .before .before .before .before .before .before .before .before .pre) (omega (arith, c .before .before .before .before .before .before .before .before .before .before .before .before .if1 .left)) (c .before .before .before .before .before .before .before .before .before .put-shape .kept .0) (c .before .before .close-frame .kept .1 .0) shape (c .before .before .close-frame .ensures))
+    frame-closed _ _ _ _ _ _ _ _ _ (c .before .before .before .before .before .before .before .before .before .before .before .before .before .before .before .before .pre) (omega (arith, c .before .before .before .before .before .before .before .before .before .before .before .before .if1 .left)) (c .before .before .before .before .before .before .before .before .before .put-shape .kept .0) (c .before .before .pop-frame .kept .1 .0) shape (c .before .before .pop-frame .ensures))
     (λ c. search needs)  -- same-length-4
     (λ c. search needs)  -- same-length-5
     (λ c. frame-full _ _ _ _ _ _ _ (rw (c .enum-told .given .1) at (c .before .before .before .before .put-shape .ensures)))  -- returns-3

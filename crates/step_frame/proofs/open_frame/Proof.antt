@@ -7,8 +7,8 @@ use Rattle.step_frame.proofs.open_frame.Tie as tie
 pub open-frame-spec : {M : Type 1} → statement M
 open-frame-spec = tie.close (tie.spec
     (λ c. frame-refused _ _ _ _ _ (c .if1 .taken))  -- returns
-    (λ c κs. search needs)  -- open-frame-requires
+    (λ c κs. search needs)  -- push-frame-requires
     (λ c. search needs)  -- add-after
     (λ c. search needs)  -- same-length
-    (λ c. frame-opened _ _ _ _ _ _ (c .before .before .before .before .if1 .left) (c .before .before .open-frame .kept .0) (c .before .before .open-frame .ensures))  -- returns-2
+    (λ c. frame-opened _ _ _ _ _ _ (c .before .before .before .before .if1 .left) (c .before .before .push-frame .kept .0) (c .before .before .push-frame .ensures))  -- returns-2
     )

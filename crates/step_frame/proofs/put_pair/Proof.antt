@@ -1,4 +1,4 @@
--- `put_pair` puts two numbers behind the bytes that were used. Assumes nothing.
+-- `put_pair` puts two numbers after the bytes that were used. Assumes nothing.
 use mathlib.Core.List.{[], _∷_}
 use borrow.Author.Needs.{needs}
 use Rattle.rules.specs.Numbers.{numbers-bytes}

@@ -1,4 +1,4 @@
--- `push_in_frame` counts the local in the frame on top and puts it behind the others, in either order the same. Assumes nothing.
+-- `push_in_frame` counts the local in the frame on top and puts it after the others, in either order the same. Assumes nothing.
 use Rattle.step_locals.proofs.Defining.{in-frame}
 use borrow.Author.Needs.{needs}
 use Rattle.step_locals.proofs.push_in_frame.Statement.{statement}

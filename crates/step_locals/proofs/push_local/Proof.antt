@@ -1,4 +1,4 @@
--- `push_local` puts a local behind the others, or refuses with 6. Assumes nothing.
+-- `push_local` puts a local after the others, or refuses with 6. Assumes nothing.
 use Rattle.step_locals.proofs.Defining.{no-room, pushed}
 use borrow.Author.Needs.{needs}
 use Rattle.step_locals.proofs.push_local.Statement.{statement}

@@ -1,6 +1,5 @@
 -- `step_open::open_object` meets its contract: the new frame has room for `this`. Assumes nothing.
-use Rattle.step_open.proofs.Beginning.{this-asks, object-opened, object-refused}
-use borrow.Author.Needs.{needs}
+use Rattle.step_open.proofs.Beginning.{this-asks, object-needs}
 use Rattle.step_open.proofs.open_object.Statement.{statement}
 use Rattle.step_open.proofs.open_object.Tie as tie
 
@@ -8,29 +7,14 @@ pub open-object-spec : {M : Type 1} → statement M
 open-object-spec =
     tie.close
     (tie.spec
-    (λ c κs. search needs)  -- enter-object-requires
-    (λ c κs.  -- open-frame-requires
-    let pre· = c .before .before .before .before .pre in
-    pre· .1 .fit .frames-long)
-    (λ c. search needs)  -- enum-known-opened
-    (λ c κs.  -- define-this-requires
-    let enter-object· = c .before .before .before .before .before .before .before .before .before .enter-object in
-    let open-frame· = c .before .before .before .before .before .before .before .open-frame in
-    let opened· = c .before .before .before .opened in
-    let pre· = c .before .before .before .before .before .before .before .before .before .before .before .before .pre in
-    this-asks (enter-object· .ensures) (open-frame· .ensures) (opened· .given .1) (pre· .0) (pre· .1))
-    (λ c. search needs)  -- enum-known-opened-2
-    (λ c. search needs)  -- same-length
-    (λ c. search needs)  -- same-length-2
-    (λ c.  -- returns
-    let enter-object· = c .before .before .before .before .before .before .before .before .before .before .before .before .before .before .enter-object in
-    let open-frame· = c .before .before .before .before .before .before .before .before .before .before .before .before .open-frame in
-    let opened· = c .before .before .before .before .before .before .before .before .opened in
-    let define-this· = c .before .before .before .before .define-this in
-    object-opened (enter-object· .ensures) (open-frame· .ensures) (opened· .given .1) (define-this· .ensures))
-    (λ c. search needs)  -- same-length-3
-    (λ c.  -- returns-2
-    let enter-object· = c .before .before .before .before .before .before .before .enter-object in
-    let open-frame· = c .before .before .before .before .before .open-frame in
-    let opened2· = c .before .opened2 in
-    object-refused (enter-object· .ensures) (open-frame· .ensures) (opened2· .given .1)))
+    (λ c κs. search object-needs)  -- enter-object-requires
+    (λ c κs. search object-needs)  -- open-frame-requires
+    (λ c. search object-needs)  -- enum-known-opened
+    (λ c κs. this-asks (c .before .before .before .before .before .before .before .before .before .enter-object .ensures) (c .before .before .before .before .before .before .before .open-frame .ensures) (c .before .before .before .opened .given .1) (c .before .before .before .before .before .before .before .before .before .before .before .before .pre .0) (c .before .before .before .before .before .before .before .before .before .before .before .before .pre .1))  -- define-this-requires
+    (λ c. search object-needs)  -- enum-known-opened-2
+    (λ c. search object-needs)  -- same-length
+    (λ c. search object-needs)  -- same-length-2
+    (λ c. search object-needs)  -- returns
+    (λ c. search object-needs)  -- same-length-3
+    (λ c. search object-needs)  -- returns-2
+    )

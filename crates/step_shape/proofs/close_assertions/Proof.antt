@@ -8,8 +8,8 @@ pub close-assertions-spec : {M : Type 1} → statement M
 close-assertions-spec =
     tie.close (tie.spec
     (λ c κs. search needs)  -- close-frame-requires
-    (λ c κs. search needs)  -- behind-requires
+    (λ c κs. search needs)  -- walked-to-requires
     (λ c. search needs)  -- same-length
     (λ c. search needs)  -- same-length-2
-    (λ c. assertions-closed _ _ _ _ _ _ _ _ _ (c .before .before .before .before .before .close-frame .ensures) _ (c .behind .ensures))  -- returns
+    (λ c. assertions-closed _ _ _ _ _ _ _ _ _ (c .before .before .before .before .before .close-frame .ensures) _ (c .walked-to .ensures))  -- returns
     )

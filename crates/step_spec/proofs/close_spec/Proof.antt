@@ -14,7 +14,13 @@ close-spec-spec =
     (λ c κs.  -- record-spec-init-requires
     let pre = c .before .before .before .before .before .before .before .before .before .before .before .before .before .before .before .before .before .before .pre in
     let n = counts-left _ _ _ _ _ _ _ _ (c .before .before .before .before .before .before .before .before .before .before .close-frame .ensures) (c .before .before .before .before .before .before .before .before .before .before .before .before .before .before .before .before .before .before .args .limits) _ _ (c .before .before .before .before .closed .given .1) (pre .2) (pre .3) in (
-      (omega (arith, n .locals, pre .0 .0), omega (arith, n .frames, pre .0 .1), pre .0 .2, omega (arith, n .references, pre .0 .3), λ f lt. omega (arith, n .locals, pre .0 .4 f (omega (arith, lt, n .frames)))),
+      record {
+        locals-long = omega (arith, n .locals, pre .0 .locals-long);
+        frames-long = omega (arith, n .frames, pre .0 .frames-long);
+        references-long = pre .0 .references-long;
+        few-references = omega (arith, n .references, pre .0 .few-references);
+        first-there = λ f lt. omega (arith, n .locals, pre .0 .first-there f (omega (arith, lt, n .frames)));
+      },
       pre .1,
       n .out,
     ))

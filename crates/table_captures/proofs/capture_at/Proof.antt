@@ -12,7 +12,7 @@ unfolding logged
 returns c =
     let read = c .before .before .before .before in
     let args = read .before .before .args in
-    λ n h. rw (read .owner-at .ensures, c .before .before .before .target-at .ensures, c .slot-of .ensures, c .before .before .number-at .ensures, c .before .number-at2 .ensures)
+    λ n h. rw (read .owner-at .ensures, c .before .before .before .target-at .ensures, c .slot-of .ensures, c .before .before .entry-number .ensures, c .before .entry-number2 .ensures)
     (rw (logged-read (args .captures .now) (args .i)) (sym (log-at-is n (args .i) (args .captures .now) h ∙ logged-read (args .captures .now) (args .i))))
 
 pub capture-at-spec : {M : Type 1} → statement M
@@ -21,7 +21,7 @@ capture-at-spec =
     (tie.spec
     (λ c κs. search needs)  -- owner-at-requires
     (λ c κs. search needs)  -- target-at-requires
-    (λ c κs. search needs)  -- number-at-requires
-    (λ c κs. search needs)  -- number-at-requires-2
-    (λ c κs. omega (arith, c .number-at2 .ensures, source-small _ _ (c .before .before .before .before .before .pre .1)))  -- slot-of-requires
+    (λ c κs. search needs)  -- entry-number-requires
+    (λ c κs. search needs)  -- entry-number-requires-2
+    (λ c κs. omega (arith, c .entry-number2 .ensures, source-small _ _ (c .before .before .before .before .before .pre .1)))  -- slot-of-requires
     returns)

@@ -8,6 +8,6 @@ use Rattle.table_captures.proofs.owner_at.Tie as tie
 
 pub owner-at-spec : {M : Type 1} → statement M
 owner-at-spec = tie.close (tie.spec
-    (λ c κs. search needs)  -- number-at-requires
-    (λ c. c .number-at .ensures ∙ sym (ap (λ (e : Logged). e .owner) (logged-read _ _)))  -- returns
+    (λ c κs. search needs)  -- entry-number-requires
+    (λ c. c .entry-number .ensures ∙ sym (ap (λ (e : Logged). e .owner) (logged-read _ _)))  -- returns
     )

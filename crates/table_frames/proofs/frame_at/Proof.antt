@@ -9,14 +9,14 @@ pub frame-at-spec : {M : Type 1} → statement M
 frame-at-spec =
     tie.close
     (tie.spec
-    (λ c κs. search needs)  -- number-at-requires
-    (λ c κs. search needs)  -- number-at-requires-2
-    (λ c κs. search needs)  -- number-at-requires-3
-    (λ c κs. search needs)  -- number-at-requires-4
+    (λ c κs. search needs)  -- entry-number-requires
+    (λ c κs. search needs)  -- entry-number-requires-2
+    (λ c κs. search needs)  -- entry-number-requires-3
+    (λ c κs. search needs)  -- entry-number-requires-4
     (λ c.  -- returns
     record {
-      defining = ap (λ n. eqb n 1) (c .before .before .before .number-at .ensures);
-      first = c .before .before .number-at2 .ensures;
-      locals = c .before .number-at3 .ensures;
-      from = c .number-at4 .ensures;
+      defining = ap (λ n. eqb n 1) (c .before .before .before .entry-number .ensures);
+      first = c .before .before .entry-number2 .ensures;
+      locals = c .before .entry-number3 .ensures;
+      from = c .entry-number4 .ensures;
     }))

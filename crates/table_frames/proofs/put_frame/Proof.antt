@@ -3,7 +3,7 @@ use mathlib.Core.Path.{sym, ap, _∙_}
 use mathlib.Core.Logic.{⊎-elim}
 use lib.Dec.{eqb}
 use borrow.Author.Needs.{needs}
-use Rattle.table_frames.proofs.Laws.{number-same}
+use Rattle.table_rows.proofs.Storing.{number-same}
 use Rattle.table_frames.proofs.put_frame.Statement.{statement}
 use Rattle.table_frames.proofs.put_frame.Tie as tie
 

@@ -3,7 +3,7 @@ use borrow.Author.Tests.{le-ltb, lt-ltb}
 use Rattle.rules.specs.Outcome.{choose}
 use Rattle.rules.specs.Numbers.{number-at, numbers-at}
 use Rattle.rules.specs.Records.{all-in-range, in-range, width, fields}
-use Rattle.tree.proofs.Laws.{chosen-test}
+use Rattle.rules.proofs.Outcomes.{chosen-test}
 use borrow.Author.Needs.{needs}
 use Rattle.tree.proofs.head_in_range.Statement.{statement}
 use Rattle.tree.proofs.head_in_range.Tie as tie

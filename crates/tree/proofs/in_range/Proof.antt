@@ -2,12 +2,11 @@
 use mathlib.Core.Path.{_≡_, refl}
 use mathlib.Core.Bool.{true}
 use Rattle.rules.specs.Outcome.{choose}
-use Rattle.rules.specs.Numbers.{Mark, code}
+use Rattle.rules.specs.Numbers.{Mark, code, numbers-at}
 use Rattle.bytes_records.specs.Marks.{mark-of, find-mark, marks}
-use Rattle.rules.specs.Numbers.{numbers-at}
 use Rattle.rules.specs.Records.{all-in-range, in-range, numbers-of, widths, width, fields}
 use Rattle.bytes_records.proofs.Laws.{mark-all, all-none, _also_}
-use Rattle.tree.proofs.Laws.{chosen-test}
+use Rattle.rules.proofs.Outcomes.{chosen-test}
 use borrow.Author.Needs.{needs}
 use Rattle.tree.proofs.in_range.Statement.{statement}
 use Rattle.tree.proofs.in_range.Tie as tie

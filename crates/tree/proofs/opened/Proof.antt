@@ -1,4 +1,4 @@
--- `tree::opened` meets its contract. A refusal is passed on; where a level is left, the place behind the record is too. Assumes nothing.
+-- `tree::opened` meets its contract. A refusal is passed on; where a level is left, the place after the record is too. Assumes nothing.
 use Rattle.tree.proofs.Leaves.{opened-refused, opened-deep, opened-went}
 use borrow.Author.Needs.{needs}
 use Rattle.tree.proofs.opened.Statement.{statement}

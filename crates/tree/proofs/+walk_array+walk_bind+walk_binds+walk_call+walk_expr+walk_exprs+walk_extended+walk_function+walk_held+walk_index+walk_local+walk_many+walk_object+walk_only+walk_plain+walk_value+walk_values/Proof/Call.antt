@@ -14,7 +14,7 @@ use Rattle.tree.proofs.walk_exprs.Reads as walk-exprs
 use Rattle.tree.proofs.walk_many.Reads as walk-many
 use Rattle.bytes_read.proofs.number_at.Reads as number-at-reads
 use Rattle.tree.proofs.opened.Reads as opened-reads
-use Rattle.tree.proofs.wide.Reads as wide-reads
+use Rattle.bytes_records.proofs.wide.Reads as wide-reads
 use Rattle.tree.proofs.+walk_array+walk_bind+walk_binds+walk_call+walk_expr+walk_exprs+walk_extended+walk_function+walk_held+walk_index+walk_local+walk_many+walk_object+walk_only+walk_plain+walk_value+walk_values.Proof.Measures.{walk-call-at, walk-exprs-below, walk-many-below}
 
 -- what the members and functions that it calls ask and promise

@@ -142,7 +142,13 @@ walk-object-met t = walk-object-lts.spec
     let opened· = c .before .before .before .before .before .before .before .before .before .before .before .before .before .before .before .before .before .before .opened in
     let w· = c .before .before .before .before .before .before .before .before .before .before .before .before .before .before .before .before .w in
     omega (arith, opened· .ensures .level _ (w· .given .1)))
-    (λ c κs. (omega (arith, c .before .before .before .before .before .before .before .before .before .before .before .before .before .before .before .before .before .before .before .before .pre .0, c .before .before .before .before .before .before .before .before .before .before .before .before .before .before .before .before .before .before .opened .ensures .level _ (c .before .before .before .before .before .before .before .before .before .before .before .before .before .before .before .before .w .given .1)), ends (c .before .before .before .before .before .before .before .before .before .before .before .before .before .walk-many .ensures) (c .before .before .before .before .before .before .before .before .before .before .before .b .given .1)))  -- walk-values-requires
+    (λ c κs.  -- walk-values-requires
+    let pre· = c .before .before .before .before .before .before .before .before .before .before .before .before .before .before .before .before .before .before .before .before .pre in
+    let opened· = c .before .before .before .before .before .before .before .before .before .before .before .before .before .before .before .before .before .before .opened in
+    let w· = c .before .before .before .before .before .before .before .before .before .before .before .before .before .before .before .before .w in
+    let walk-many· = c .before .before .before .before .before .before .before .before .before .before .before .before .before .walk-many in
+    let b· = c .before .before .before .before .before .before .before .before .before .before .before .b in
+    (omega (arith, pre· .0, opened· .ensures .level _ (w· .given .1)), ends (walk-many· .ensures) (b· .given .1)))
     (λ c.  -- returns-5
     let args· = c .before .before .before .before .before .before .before .before .before .before .before .before .before .before .before .before .before .before .before .before .before .args in
     let opened· = c .before .before .before .before .before .before .before .before .before .before .before .before .before .before .before .before .before .before .before .opened in

@@ -1,11 +1,10 @@
 -- The walk over an expression: each need of its code, answered from the laws of joins. Assumes nothing.
-use Prim.Native.Nat.{ℕ, _-_}
+use Prim.Native.Nat.{ℕ}
 use borrow.Author.Needs.{needs}
 use native.Mathlib.Omega.{arith}
 use mathlib.Core.Path.{sym, _∙_}
 use Rattle.rules.specs.Numbers.{code}
 use Rattle.state.specs.Walks.{place-of, naming-of}
-use Rattle.step_leaf.specs.Leaves.{is-leaf}
 use Rattle.step_leaf.proofs.Laws.{rank-one, leaf-item, leaf-answered, no-identity, no-constant, no-variable, no-import}
 use Rattle.walkers.proofs.analyze.Reads as analyze
 use Rattle.walkers.proofs.+analyze+on_array+on_assertions+on_bind+on_binds+on_fields+on_function+on_head+on_heads+on_held+on_item+on_items+on_local+on_members+on_object+on_param+on_params+on_plain+on_value+on_values.Lts-analyze as analyze-lts
@@ -15,8 +14,8 @@ use Rattle.walkers.proofs.on_items.Reads as on-items
 use Rattle.walkers.proofs.on_local.Reads as on-local
 use Rattle.walkers.proofs.on_object.Reads as on-object
 use Rattle.walkers.proofs.on_plain.Reads as on-plain
-use Rattle.step_leaf.proofs.is_leaf.Reads as is-leaf-reads
 use Rattle.bytes_read.proofs.mark_at.Reads as mark-at-reads
+use Rattle.step_leaf.proofs.is_leaf.Reads as is-leaf-reads
 use Rattle.walkers.proofs.+analyze+on_array+on_assertions+on_bind+on_binds+on_fields+on_function+on_head+on_heads+on_held+on_item+on_items+on_local+on_members+on_object+on_param+on_params+on_plain+on_value+on_values.Proof.Measures.{analyze-at, on-array-below, on-function-below, on-items-below, on-local-below, on-object-below, on-plain-below}
 
 -- what the members and functions that it calls ask and promise

@@ -4,7 +4,6 @@ use borrow.Author.Needs.{needs}
 use native.Mathlib.Omega.{arith}
 use mathlib.Core.Bool.{false}
 use mathlib.Core.Path.{refl, sym, _∙_, subst}
-use Rattle.rules.specs.Numbers.{code}
 use Rattle.rules.specs.FirstWalk.{any-expression}
 use Rattle.law_runs.specs.Run.{Accepted, items-at}
 use Rattle.law_runs.proofs.Reading.{expr-level}
@@ -19,12 +18,12 @@ use Rattle.law_joins.proofs.Returns.{told, array-constant, array-unopened, arra
 use Rattle.walkers.proofs.on_array.Reads as on-array
 use Rattle.walkers.proofs.+analyze+on_array+on_assertions+on_bind+on_binds+on_fields+on_function+on_head+on_heads+on_held+on_item+on_items+on_local+on_members+on_object+on_param+on_params+on_plain+on_value+on_values.Lts-on_array as on-array-lts
 use Rattle.walkers.proofs.on_items.Reads as on-items
-use Rattle.step_copy.proofs.emit_constants.Reads as emit-constants-reads
-use Rattle.step_shape.proofs.close_array.Reads as close-array-reads
 use Rattle.bytes_read.proofs.number_at.Reads as number-at-reads
 use Rattle.bytes_records.proofs.constants.Reads as constants-reads
-use Rattle.walkers.proofs.not_opened.Reads as not-opened-reads
+use Rattle.state.proofs.walked_to.Reads as walked-to-reads
+use Rattle.step_copy.proofs.emit_constants.Reads as emit-constants-reads
 use Rattle.step_frame.proofs.open_frame.Reads as open-frame-reads
+use Rattle.step_shape.proofs.close_array.Reads as close-array-reads
 use Rattle.walkers.proofs.+analyze+on_array+on_assertions+on_bind+on_binds+on_fields+on_function+on_head+on_heads+on_held+on_item+on_items+on_local+on_members+on_object+on_param+on_params+on_plain+on_value+on_values.Proof.Measures.{on-array-at, on-items-below}
 
 -- what the members and functions that it calls ask and promise
@@ -38,8 +37,8 @@ called t = (
   emit-constants-reads.Learnt,
   open-frame-reads.Asked,
   open-frame-reads.Learnt,
-  not-opened-reads.Asked,
-  not-opened-reads.Learnt,
+  walked-to-reads.Asked,
+  walked-to-reads.Learnt,
   on-items-below t,
   on-items.Post,
   close-array-reads.Asked,
@@ -84,7 +83,7 @@ on-array-met t = on-array-lts.spec
     (pre· .1 .0) .fit .frames-long)
     (λ c. search needs)  -- enum-known-opened
     (λ c. search needs)  -- enum-told
-    (λ c κs. search needs)  -- not-opened-requires
+    (λ c κs. search needs)  -- walked-to-requires
     (λ c. c .before .before .before .before .before .open-frame .kept .0)  -- same-length-2
     (λ c.  -- returns-2
     let args· = c .before .before .before .before .before .before .before .before .before .before .before .before .before .before .before .before .before .args in
@@ -94,8 +93,8 @@ on-array-met t = on-array-lts.spec
     let if1· = c .before .before .before .before .before .before .before .if1 in
     let open-frame· = c .before .before .before .before .before .open-frame in
     let enum-told· = c .before .enum-told in
-    let not-opened· = c .not-opened in
-    λ ν. array-unopened (args· .tree .now) (args· .nest) (args· .at) (pre· .1 .1) ν (place-of (args· .here)) (number-at· .ensures) (constants· .ensures) (if1· .left) (opened (open-frame· .ensures) ((pre· .1 .0) .fit)) (enum-told· .given .1) (unopened (not-opened· .ensures) (enum-told· .given .1)))
+    let walked-to· = c .walked-to in
+    λ ν. array-unopened (args· .tree .now) (args· .nest) (args· .at) (pre· .1 .1) ν (place-of (args· .here)) (number-at· .ensures) (constants· .ensures) (if1· .left) (opened (open-frame· .ensures) ((pre· .1 .0) .fit)) (enum-told· .given .1) (unopened (walked-to· .ensures) (enum-told· .given .1)))
     (λ c.  -- add-on-items
     let args· = c .before .before .before .before .before .before .before .before .before .before .before .before .before .before .before .before .before .before .before .before .before .before .before .args in
     let pre· = c .before .before .before .before .before .before .before .before .before .before .before .before .before .before .before .before .before .before .before .before .before .before .before .pre in

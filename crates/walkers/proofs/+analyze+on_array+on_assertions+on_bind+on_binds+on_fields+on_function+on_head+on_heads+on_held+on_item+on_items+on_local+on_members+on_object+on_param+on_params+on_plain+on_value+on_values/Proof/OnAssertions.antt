@@ -1,10 +1,9 @@
 -- The walk over an object's assertions: each need of its code, answered from the laws of joins. Assumes nothing.
-use Prim.Native.Nat.{ℕ, _-_}
+use Prim.Native.Nat.{ℕ}
 use borrow.Author.Needs.{needs}
 use native.Mathlib.Omega.{arith}
 use mathlib.Core.Bool.{false}
 use mathlib.Core.Path.{refl, _∙_}
-use Rattle.rules.specs.Numbers.{code}
 use Rattle.state.specs.Walks.{place-of}
 use Rattle.law_joins.proofs.Joining.{unopened, went-fit}
 use Rattle.law_joins.proofs.Onward.{ready-opened}
@@ -14,9 +13,9 @@ use Rattle.law_joins.proofs.Returns.{assertions-nothing, assertions-unopened, a
 use Rattle.walkers.proofs.on_assertions.Reads as on-assertions
 use Rattle.walkers.proofs.+analyze+on_array+on_assertions+on_bind+on_binds+on_fields+on_function+on_head+on_heads+on_held+on_item+on_items+on_local+on_members+on_object+on_param+on_params+on_plain+on_value+on_values.Lts-on_assertions as on-assertions-lts
 use Rattle.walkers.proofs.on_items.Reads as on-items
-use Rattle.step_shape.proofs.close_assertions.Reads as close-assertions-reads
-use Rattle.walkers.proofs.not_opened.Reads as not-opened-reads
+use Rattle.state.proofs.walked_to.Reads as walked-to-reads
 use Rattle.step_frame.proofs.open_frame.Reads as open-frame-reads
+use Rattle.step_shape.proofs.close_assertions.Reads as close-assertions-reads
 use Rattle.walkers.proofs.+analyze+on_array+on_assertions+on_bind+on_binds+on_fields+on_function+on_head+on_heads+on_held+on_item+on_items+on_local+on_members+on_object+on_param+on_params+on_plain+on_value+on_values.Proof.Measures.{on-assertions-at, on-items-below}
 
 -- what the members and functions that it calls ask and promise
@@ -24,8 +23,8 @@ abbrev called : (t : ℕ) → on-assertions-lts.Claims
 called t = (
   open-frame-reads.Asked,
   open-frame-reads.Learnt,
-  not-opened-reads.Asked,
-  not-opened-reads.Learnt,
+  walked-to-reads.Asked,
+  walked-to-reads.Learnt,
   on-items-below t,
   on-items.Post,
   close-assertions-reads.Asked,
@@ -47,7 +46,7 @@ on-assertions-met t = on-assertions-lts.spec
     (pre· .1 .0) .fit .frames-long)
     (λ c. search needs)  -- enum-known-opened
     (λ c. search needs)  -- enum-told
-    (λ c κs. search needs)  -- not-opened-requires
+    (λ c κs. search needs)  -- walked-to-requires
     (λ c. c .before .before .before .before .before .open-frame .kept .0)  -- same-length
     (λ c.  -- returns-2
     let args· = c .before .before .before .before .before .before .before .before .before .before .before .before .before .before .before .args in
@@ -55,8 +54,8 @@ on-assertions-met t = on-assertions-lts.spec
     let if1· = c .before .before .before .before .before .before .before .if1 in
     let open-frame· = c .before .before .before .before .before .open-frame in
     let enum-told· = c .before .enum-told in
-    let not-opened· = c .not-opened in
-    assertions-unopened (args· .tree .now) (args· .nest) (args· .n) (args· .at) (place-of (args· .here)) (pre· .1 .1) (if1· .left) (opened (open-frame· .ensures) ((pre· .1 .0) .fit)) (enum-told· .given .1) (unopened (not-opened· .ensures) (enum-told· .given .1)))
+    let walked-to· = c .walked-to in
+    assertions-unopened (args· .tree .now) (args· .nest) (args· .n) (args· .at) (place-of (args· .here)) (pre· .1 .1) (if1· .left) (opened (open-frame· .ensures) ((pre· .1 .0) .fit)) (enum-told· .given .1) (unopened (walked-to· .ensures) (enum-told· .given .1)))
     (λ c κs.  -- on-items-requires
     let args· = c .before .before .before .before .before .before .before .before .before .before .before .before .before .before .before .before .before .before .before .before .before .args in
     let pre· = c .before .before .before .before .before .before .before .before .before .before .before .before .before .before .before .before .before .before .before .before .before .pre in

@@ -1,26 +1,26 @@
 -- The walk over a bind: each need of its code, answered from the laws of joins. Assumes nothing.
-use Prim.Native.Nat.{ℕ, _-_}
+use Prim.Native.Nat.{ℕ}
 use borrow.Author.Needs.{needs}
 use native.Mathlib.Omega.{arith}
 use mathlib.Core.Path.{refl, _∙_}
-use Rattle.rules.specs.Numbers.{code}
 use Rattle.law_runs.proofs.Lists.{bind-fits, bind-value}
 use Rattle.state.specs.Seen.{stack}
 use Rattle.step_spec.specs.Answers.{spec-mark, spec-numbers}
+use Rattle.step_spec.proofs.Keeping.{keepable}
 use Rattle.state.specs.Walks.{place-of, naming-of}
 use Rattle.law_joins.proofs.Joining.{valueless, specless, went-fit}
 use Rattle.law_joins.proofs.Readiness.{ready-on}
 use Rattle.law_joins.proofs.Onward.{ready-value, longer-value}
-use Rattle.law_joins.proofs.Asking.{opened, written-counted}
+use Rattle.law_joins.proofs.Asking.{written-counted}
 use Rattle.law_joins.proofs.Returns.{bind-unopened, bind-stopped, bind-ended}
 use Rattle.walkers.proofs.analyze.Reads as analyze
 use Rattle.walkers.proofs.on_bind.Reads as on-bind
 use Rattle.walkers.proofs.+analyze+on_array+on_assertions+on_bind+on_binds+on_fields+on_function+on_head+on_heads+on_held+on_item+on_items+on_local+on_members+on_object+on_param+on_params+on_plain+on_value+on_values.Lts-on_bind as on-bind-lts
-use Rattle.step_spec.proofs.close_spec.Reads as close-spec-reads
+use Rattle.state.proofs.none_kept.Reads as none-kept-reads
+use Rattle.state.proofs.specs_to.Reads as specs-to-reads
 use Rattle.step_open.proofs.open_value.Reads as open-value-reads
 use Rattle.step_place.proofs.bind_naming.Reads as bind-naming-reads
-use Rattle.walkers.proofs.no_spec.Reads as no-spec-reads
-use Rattle.walkers.proofs.no_value.Reads as no-value-reads
+use Rattle.step_spec.proofs.close_spec.Reads as close-spec-reads
 use Rattle.walkers.proofs.+analyze+on_array+on_assertions+on_bind+on_binds+on_fields+on_function+on_head+on_heads+on_held+on_item+on_items+on_local+on_members+on_object+on_param+on_params+on_plain+on_value+on_values.Proof.Measures.{analyze-below, on-bind-at}
 
 -- what the members and functions that it calls ask and promise
@@ -28,14 +28,14 @@ abbrev called : (t : ℕ) → on-bind-lts.Claims
 called t = (
   open-value-reads.Asked,
   open-value-reads.Learnt,
-  no-value-reads.Asked,
-  no-value-reads.Learnt,
+  specs-to-reads.Asked,
+  specs-to-reads.Learnt,
   bind-naming-reads.Asked,
   bind-naming-reads.Learnt,
   analyze-below t,
   analyze.Post,
-  no-spec-reads.Asked,
-  no-spec-reads.Learnt,
+  none-kept-reads.Asked,
+  none-kept-reads.Learnt,
   close-spec-reads.Asked,
   close-spec-reads.Learnt,
 )
@@ -53,8 +53,8 @@ on-bind-returns t c =
     let pre· = c .before .before .before .before .before .before .before .before .before .before .before .before .before .before .pre in
     let open-value· = c .before .before .before .before .before .open-value in
     let enum-told· = c .before .enum-told in
-    let no-value· = c .no-value in
-    bind-unopened (args· .tree .now) (args· .nest) (args· .at) (args· .base) (args· .kept) ((pre· .1 .1) .0) (place-of (args· .here)) (open-value· .ensures .opened _ _ _ _ _ ((pre· .1 .0) .fit)) (enum-told· .given .1) (valueless (no-value· .ensures) (enum-told· .given .1))
+    let specs-to· = c .specs-to in
+    bind-unopened (args· .tree .now) (args· .nest) (args· .at) (args· .base) (args· .kept) ((pre· .1 .1) .0) (place-of (args· .here)) (open-value· .ensures .opened _ _ _ _ _ ((pre· .1 .0) .fit)) (enum-told· .given .1) (valueless (specs-to· .ensures) (enum-told· .given .1))
 
 on-bind-bind-naming-requires : (t : ℕ) → on-bind-lts.Need-bind-naming-requires (called t) (on-bind-at t) on-bind.Post
 unfolding naming-of
@@ -82,8 +82,8 @@ on-bind-returns-2 t c =
     let bind-naming· = c .before .before .before .before .before .before .before .before .before .before .before .before .before .before .before .before .bind-naming in
     let analyze· = c .before .before .before .before .before .before .before .before .before .before .before .before .before .before .before .analyze in
     let enum-told2· = c .before .enum-told2 in
-    let no-spec· = c .no-spec in
-    bind-stopped (args· .tree .now) (args· .nest) (args· .at) (args· .base) (args· .kept) ((pre· .1 .1) .0) (place-of (args· .here)) (open-value· .ensures .opened _ _ _ _ _ ((pre· .1 .0) .fit)) (opened· .given .1) (record { out = refl; diagnostics = refl }) (bind-naming· .ensures) (analyze· .ensures) (enum-told2· .given .1) (specless (no-spec· .ensures) (enum-told2· .given .1))
+    let none-kept· = c .none-kept in
+    bind-stopped (args· .tree .now) (args· .nest) (args· .at) (args· .base) (args· .kept) ((pre· .1 .1) .0) (place-of (args· .here)) (open-value· .ensures .opened _ _ _ _ _ ((pre· .1 .0) .fit)) (opened· .given .1) (record { out = refl; diagnostics = refl }) (bind-naming· .ensures) (analyze· .ensures) (enum-told2· .given .1) (specless (none-kept· .ensures) (enum-told2· .given .1))
 
 on-bind-close-spec-requires : (t : ℕ) → on-bind-lts.Need-close-spec-requires (called t) (on-bind-at t) on-bind.Post
 unfolding naming-of
@@ -94,7 +94,7 @@ on-bind-close-spec-requires t c κs =
     let args· = c .before .before .before .before .before .before .before .before .before .before .before .before .before .before .before .before .before .before .before .before .before .before .before .before .before .before .before .before .before .before .before .before .before .before .before .before .before .before .before .before .before .before .args in
     let open-value· = c .before .before .before .before .before .before .before .before .before .before .before .before .before .before .before .before .before .before .before .before .before .before .before .before .before .before .before .before .before .before .before .before .before .open-value in
     let opened· = c .before .before .before .before .before .before .before .before .before .before .before .before .before .before .before .before .before .before .before .before .before .before .before .before .before .before .before .before .before .opened in
-    (let f = (went-fit (analyze· .ensures) (w· .given .1)) in ((omega (arith, f .locals-long, f .few-locals), omega (arith, f .frames-long, f .few-frames), f .references-long, f .few-references, f .first-there), omega (arith, (pre· .1 .1) .1, (pre· .1 .1) .2), longer-value (args· .tree .now) (args· .nest) _ (args· .at) _ (place-of (args· .here)) ((pre· .1 .0) .fit) (open-value· .ensures .opened _ _ _ _ _ ((pre· .1 .0) .fit)) (opened· .given .1) (analyze· .ensures) (w· .given .1), f .out-long, f .frames-kept))
+    (let f = (went-fit (analyze· .ensures) (w· .given .1)) in (keepable f, omega (arith, (pre· .1 .1) .1, (pre· .1 .1) .2), longer-value (args· .tree .now) (args· .nest) _ (args· .at) _ (place-of (args· .here)) ((pre· .1 .0) .fit) (open-value· .ensures .opened _ _ _ _ _ ((pre· .1 .0) .fit)) (opened· .given .1) (analyze· .ensures) (w· .given .1), f .out-long, f .frames-kept))
 
 on-bind-returns-3 : (t : ℕ) → on-bind-lts.Need-returns-3 (called t) (on-bind-at t) on-bind.Post
 unfolding naming-of stack spec-mark spec-numbers
@@ -117,7 +117,7 @@ on-bind-met t = on-bind-lts.spec
     (on-bind-open-value-requires t)
     (λ c. search needs)  -- enum-known-opened
     (λ c. search needs)  -- enum-told
-    (λ c κs. search needs)  -- no-value-requires
+    (λ c κs. search needs)  -- specs-to-requires
     (λ c. c .before .before .before .before .before .open-value .kept .0)  -- same-length
     (on-bind-returns t)
     (λ c.  -- add-analyze
@@ -128,7 +128,7 @@ on-bind-met t = on-bind-lts.spec
     (on-bind-analyze-requires t)
     (λ c. search needs)  -- enum-known-w
     (λ c. search needs)  -- enum-told-2
-    (λ c κs. search needs)  -- no-spec-requires
+    (λ c κs. search needs)  -- none-kept-requires
     (λ c. c .before .before .before .before .before .before .before .before .before .before .before .before .before .before .before .analyze .kept .1 .0)  -- same-length-2
     (λ c. c .before .before .before .before .before .before .before .before .before .before .before .before .before .before .before .analyze .kept .1 .1 .0)  -- same-length-3
     (λ c. c .before .before .before .before .before .before .before .before .before .before .before .before .before .before .before .analyze .kept .1 .1 .1 .0)  -- same-length-4

@@ -1,9 +1,8 @@
 -- The walk over an object's assertions and values: each need of its code, answered from the laws of joins. Assumes nothing.
-use Prim.Native.Nat.{ℕ, _-_}
+use Prim.Native.Nat.{ℕ}
 use borrow.Author.Needs.{needs}
 use native.Mathlib.Omega.{arith}
 use mathlib.Core.Path.{_∙_}
-use Rattle.rules.specs.Numbers.{code}
 use Rattle.state.specs.Walks.{place-of}
 use Rattle.law_joins.proofs.Onward.{ready-assertions}
 use Rattle.law_joins.proofs.Stages.{fields-assertions, fields-values}

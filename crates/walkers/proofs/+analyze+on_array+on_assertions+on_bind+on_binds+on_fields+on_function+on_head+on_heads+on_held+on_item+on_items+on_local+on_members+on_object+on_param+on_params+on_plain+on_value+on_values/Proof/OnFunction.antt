@@ -3,7 +3,6 @@ use Prim.Native.Nat.{ℕ, _-_}
 use borrow.Author.Needs.{needs}
 use native.Mathlib.Omega.{arith}
 use mathlib.Core.Path.{refl, sym, _∙_}
-use Rattle.rules.specs.Numbers.{code}
 use Rattle.rules.specs.FirstWalk.{any-expression}
 use Rattle.rules.specs.Walk.{unnamed}
 use Rattle.law_runs.proofs.Reading.{expr-level}
@@ -20,13 +19,13 @@ use Rattle.walkers.proofs.analyze.Reads as analyze
 use Rattle.walkers.proofs.on_function.Reads as on-function
 use Rattle.walkers.proofs.+analyze+on_array+on_assertions+on_bind+on_binds+on_fields+on_function+on_head+on_heads+on_held+on_item+on_items+on_local+on_members+on_object+on_param+on_params+on_plain+on_value+on_values.Lts-on_function as on-function-lts
 use Rattle.walkers.proofs.on_params.Reads as on-params
+use Rattle.bytes_read.proofs.number_at.Reads as number-at-reads
+use Rattle.state.proofs.walked_past.Reads as walked-past-reads
 use Rattle.step_close.proofs.finish_function.Reads as finish-function-reads
 use Rattle.step_judge.proofs.settle_frame.Reads as settle-frame-reads
 use Rattle.step_open.proofs.begin_function.Reads as begin-function-reads
-use Rattle.bytes_read.proofs.number_at.Reads as number-at-reads
 use Rattle.step_place.proofs.deeper.Reads as deeper-reads
 use Rattle.walkers.proofs.first_defaults.Reads as first-defaults-reads
-use Rattle.walkers.proofs.not_kept.Reads as not-kept-reads
 use Rattle.walkers.proofs.+analyze+on_array+on_assertions+on_bind+on_binds+on_fields+on_function+on_head+on_heads+on_held+on_item+on_items+on_local+on_members+on_object+on_param+on_params+on_plain+on_value+on_values.Proof.Measures.{analyze-below, on-function-at, on-params-below}
 
 -- what the members and functions that it calls ask and promise
@@ -38,8 +37,8 @@ called t = (
   begin-function-reads.Learnt,
   on-params-below t,
   on-params.Post,
-  not-kept-reads.Asked,
-  not-kept-reads.Learnt,
+  walked-past-reads.Asked,
+  walked-past-reads.Learnt,
   settle-frame-reads.Asked,
   settle-frame-reads.Learnt,
   deeper-reads.Asked,
@@ -82,8 +81,8 @@ on-function-returns-2 t c =
     let begun· = c .before .before .before .before .before .before .before .before .before .before .before .before .before .before .before .before .before .before .before .before .before .before .before .begun in
     let on-params· = c .before .before .before .before .before .before .before .before .before .before .before .before .before .before .before .on-params in
     let enum-told2· = c .before .enum-told2 in
-    let not-kept· = c .not-kept in
-    function-params-stopped (args· .tree .now) (args· .nest) (args· .at) (pre· .1 .1) (naming-of (args· .naming)) (place-of (args· .here)) (number-at· .ensures) (begin-function· .ensures .begun ((args· .nest) - 1) (function-params-there (pre· .1 .0) (pre· .1 .1) (number-at· .ensures)) _ _ _ ((pre· .1 .0) .fit)) (begun· .given .1) (record { out = refl; diagnostics = begin-function· .kept .1 .0 }) (on-params· .ensures) (enum-told2· .given .1) (unkept (not-kept· .ensures) (enum-told2· .given .1))
+    let walked-past· = c .walked-past in
+    function-params-stopped (args· .tree .now) (args· .nest) (args· .at) (pre· .1 .1) (naming-of (args· .naming)) (place-of (args· .here)) (number-at· .ensures) (begin-function· .ensures .begun ((args· .nest) - 1) (function-params-there (pre· .1 .0) (pre· .1 .1) (number-at· .ensures)) _ _ _ ((pre· .1 .0) .fit)) (begun· .given .1) (record { out = refl; diagnostics = begin-function· .kept .1 .0 }) (on-params· .ensures) (enum-told2· .given .1) (unkept (walked-past· .ensures) (enum-told2· .given .1))
 
 on-function-settle-frame-requires : (t : ℕ) → on-function-lts.Need-settle-frame-requires (called t) (on-function-at t) on-function.Post
 unfolding place-of naming-of
@@ -127,27 +126,7 @@ on-function-returns-3 t c =
     let enum-told3· = c .enum-told3 in
     function-body-stopped (args· .tree .now) (args· .nest) (args· .at) (pre· .1 .1) (naming-of (args· .naming)) (place-of (args· .here)) (number-at· .ensures) (begin-function· .ensures .begun ((args· .nest) - 1) (function-params-there (pre· .1 .0) (pre· .1 .1) (number-at· .ensures)) _ _ _ ((pre· .1 .0) .fit)) (begun· .given .1) (record { out = refl; diagnostics = begin-function· .kept .1 .0 }) (on-params· .ensures) (specs· .given .1) (record { out = on-params· .kept .1 .0; diagnostics = on-params· .kept .1 .1 .0 }) (sym (references-counted (buffers (args· .out .now) (args· .diagnostics .now) (args· .locals .now) (args· .frames .now) (args· .captures .now) (args· .references .now)) (args· .st))) (settle-frame· .ensures .becomes _ _ _ _ _ (kept-fit (on-params· .ensures) (specs· .given .1))) (record { out = refl; diagnostics = refl }) (deeper· .ensures .same) (analyze· .ensures) (enum-told3· .given .1)
 
-on-function-finish-function-requires :
-    (t : ℕ) → on-function-lts.Need-finish-function-requires (
-      number-at-reads.Asked,
-      number-at-reads.Learnt,
-      begin-function-reads.Asked,
-      begin-function-reads.Learnt,
-      on-params-below t,
-      on-params.Post,
-      not-kept-reads.Asked,
-      not-kept-reads.Learnt,
-      settle-frame-reads.Asked,
-      settle-frame-reads.Learnt,
-      deeper-reads.Asked,
-      deeper-reads.Learnt,
-      analyze-below t,
-      analyze.Post,
-      first-defaults-reads.Asked,
-      first-defaults-reads.Learnt,
-      finish-function-reads.Asked,
-      finish-function-reads.Learnt,
-    ) (on-function-at t) on-function.Post
+on-function-finish-function-requires : (t : ℕ) → on-function-lts.Need-finish-function-requires (called t) (on-function-at t) on-function.Post
 unfolding place-of naming-of
 on-function-finish-function-requires t c κs =
     let pre· = c .before .before .before .before .before .before .before .before .before .before .before .before .before .before .before .before .before .before .before .before .before .before .before .before .before .before .before .before .before .before .before .before .before .before .before .before .before .before .before .before .before .before .before .before .before .before .before .before .before .before .before .before .before .before .before .before .before .before .before .before .before .before .before .before .before .before .before .before .before .before .before .before .before .before .before .before .before .before .before .pre in
@@ -214,7 +193,7 @@ on-function-met t = on-function-lts.spec
     (on-function-on-params-requires t)
     (λ c. search needs)  -- enum-known-specs
     (λ c. search needs)  -- enum-told-2
-    (λ c κs. search needs)  -- not-kept-requires
+    (λ c κs. search needs)  -- walked-past-requires
     (λ c. c .before .before .before .before .before .before .before .before .before .before .before .before .before .before .before .on-params .kept .1 .0)  -- same-length-4
     (λ c. c .before .before .before .before .before .before .before .before .before .before .before .before .before .before .before .on-params .kept .1 .1 .0 ∙ c .before .before .before .before .before .before .before .before .before .before .before .before .before .before .before .before .before .before .before .before .before .before .before .before .before .before .before .before .before .before .before .begin-function .kept .1 .0)  -- same-length-5
     (λ c. c .before .before .before .before .before .before .before .before .before .before .before .before .before .before .before .on-params .kept .1 .1 .1 .0 ∙ c .before .before .before .before .before .before .before .before .before .before .before .before .before .before .before .before .before .before .before .before .before .before .before .before .before .before .before .before .before .before .before .begin-function .kept .1 .1 .0)  -- same-length-6

@@ -1,9 +1,8 @@
 -- The walk over a field's head: each need of its code, answered from the laws of joins. Assumes nothing.
-use Prim.Native.Nat.{ℕ, _-_}
+use Prim.Native.Nat.{ℕ}
 use borrow.Author.Needs.{needs}
 use native.Mathlib.Omega.{arith}
 use mathlib.Core.Path.{_∙_}
-use Rattle.rules.specs.Numbers.{code}
 use Rattle.law_runs.proofs.Lists.{head-fits, head-name}
 use Rattle.state.specs.Walks.{place-of, naming-of}
 use Rattle.law_joins.proofs.Joining.{went-fit}
@@ -12,8 +11,8 @@ use Rattle.law_joins.proofs.Returns.{head-alone, head-stopped, head-ended}
 use Rattle.walkers.proofs.analyze.Reads as analyze
 use Rattle.walkers.proofs.on_head.Reads as on-head
 use Rattle.walkers.proofs.+analyze+on_array+on_assertions+on_bind+on_binds+on_fields+on_function+on_head+on_heads+on_held+on_item+on_items+on_local+on_members+on_object+on_param+on_params+on_plain+on_value+on_values.Lts-on_head as on-head-lts
-use Rattle.step_emit.proofs.emit_head.Reads as emit-head-reads
 use Rattle.bytes_read.proofs.number_at.Reads as number-at-reads
+use Rattle.step_emit.proofs.emit_head.Reads as emit-head-reads
 use Rattle.walkers.proofs.+analyze+on_array+on_assertions+on_bind+on_binds+on_fields+on_function+on_head+on_heads+on_held+on_item+on_items+on_local+on_members+on_object+on_param+on_params+on_plain+on_value+on_values.Proof.Measures.{analyze-below, on-head-at}
 
 -- what the members and functions that it calls ask and promise

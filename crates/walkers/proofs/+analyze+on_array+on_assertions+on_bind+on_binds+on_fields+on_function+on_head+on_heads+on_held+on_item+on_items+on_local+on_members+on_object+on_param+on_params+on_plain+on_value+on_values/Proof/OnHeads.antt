@@ -3,7 +3,6 @@ use Prim.Native.Nat.{ℕ, _-_}
 use borrow.Author.Needs.{needs}
 use native.Mathlib.Omega.{arith}
 use mathlib.Core.Path.{_∙_}
-use Rattle.rules.specs.Numbers.{code}
 use Rattle.law_runs.specs.Run.{Accepted, heads-at, run-heads}
 use Rattle.state.specs.Seen.{buffers}
 use Rattle.state.specs.Walks.{place-of}

@@ -1,10 +1,9 @@
 -- The walk over a record that holds expressions: each need of its code, answered from the laws of joins. Assumes nothing.
-use Prim.Native.Nat.{ℕ, _-_}
+use Prim.Native.Nat.{ℕ}
 use borrow.Author.Needs.{needs}
 use native.Mathlib.Omega.{arith}
 use mathlib.Core.List.{[]}
 use mathlib.Core.Path.{_∙_}
-use Rattle.rules.specs.Numbers.{code}
 use Rattle.rules.specs.Walk.{unnamed}
 use Rattle.law_runs.proofs.Holders.{held-marked, held-sized, held-size, held-first}
 use Rattle.state.specs.Seen.{limits-of}
@@ -13,13 +12,12 @@ use Rattle.law_joins.proofs.Joining.{went-fit}
 use Rattle.law_joins.proofs.Readiness.{ready-on}
 use Rattle.law_joins.proofs.Onward.{ready-expr}
 use Rattle.law_joins.proofs.Stages.{children-here, held-second-there}
-use Rattle.law_joins.proofs.Returns.{the-holder}
-use Rattle.law_joins.proofs.Returns.{held-first-stopped, held-one-ended, held-second-stopped, held-two-ended}
+use Rattle.law_joins.proofs.Returns.{the-holder, held-first-stopped, held-one-ended, held-second-stopped, held-two-ended}
 use Rattle.walkers.proofs.analyze.Reads as analyze
 use Rattle.walkers.proofs.on_held.Reads as on-held
 use Rattle.walkers.proofs.+analyze+on_array+on_assertions+on_bind+on_binds+on_fields+on_function+on_head+on_heads+on_held+on_item+on_items+on_local+on_members+on_object+on_param+on_params+on_plain+on_value+on_values.Lts-on_held as on-held-lts
-use Rattle.step_copy.proofs.copy_record.Reads as copy-record-reads
 use Rattle.bytes_records.proofs.children.Reads as children-reads
+use Rattle.step_copy.proofs.copy_record.Reads as copy-record-reads
 use Rattle.walkers.proofs.+analyze+on_array+on_assertions+on_bind+on_binds+on_fields+on_function+on_head+on_heads+on_held+on_item+on_items+on_local+on_members+on_object+on_param+on_params+on_plain+on_value+on_values.Proof.Measures.{analyze-below, on-held-at}
 
 -- what the members and functions that it calls ask and promise

@@ -1,8 +1,9 @@
 -- The walk over an item: each need of its code, answered from the laws of joins. Assumes nothing.
-use Prim.Native.Nat.{ℕ, _-_}
+use Prim.Native.Nat.{ℕ}
 use borrow.Author.Needs.{needs}
 use native.Mathlib.Omega.{arith}
 use mathlib.Core.List.{[]}
+use mathlib.Core.Logic.{inl, inr, ⊎-elim}
 use mathlib.Core.Path.{sym}
 use Rattle.rules.specs.Numbers.{code}
 use Rattle.law_runs.proofs.Holders.{not-held}
@@ -28,23 +29,7 @@ on-item-on-held-requires t c κs =
     let pre· = c .before .before .before .before .before .before .before .before .before .before .before .before .before .before .before .pre in
     let mark-at· = c .before .before .before .before .before .before .before .mark-at in
     let match· = c .before .before .before .before .before .before .match in
-    (omega (arith, pre· .0), ((pre· .1 .0), record { read = (pre· .1 .1); marked = sym (mark-at· .ensures .0); holder = an-argument (match· .keys1) }))
-
-on-item-on-held-requires-2 : (t : ℕ) → on-item-lts.Need-on-held-requires-2 (called t) (on-item-at t) on-item.Post
-unfolding code
-on-item-on-held-requires-2 t c κs =
-    let pre· = c .before .before .before .before .before .before .before .before .before .before .before .before .before .before .before .pre in
-    let mark-at· = c .before .before .before .before .before .before .before .mark-at in
-    let match· = c .before .before .before .before .before .before .match in
-    (omega (arith, pre· .0), ((pre· .1 .0), record { read = (pre· .1 .1); marked = sym (mark-at· .ensures .0); holder = a-part (match· .keys2) }))
-
-on-item-on-held-requires-3 : (t : ℕ) → on-item-lts.Need-on-held-requires-3 (called t) (on-item-at t) on-item.Post
-unfolding code
-on-item-on-held-requires-3 t c κs =
-    let pre· = c .before .before .before .before .before .before .before .before .before .before .before .before .before .before .before .pre in
-    let mark-at· = c .before .before .before .before .before .before .before .mark-at in
-    let match· = c .before .before .before .before .before .before .match in
-    (omega (arith, pre· .0), ((pre· .1 .0), record { read = (pre· .1 .1); marked = sym (mark-at· .ensures .0); holder = an-assertion (match· .keys3) }))
+    (omega (arith, pre· .0), ((pre· .1 .0), record { read = (pre· .1 .1); marked = sym (mark-at· .ensures .0); holder = ⊎-elim an-assertion (⊎-elim an-argument a-part) (match· .keys1) }))
 
 on-item-analyze-requires : (t : ℕ) → on-item-lts.Need-analyze-requires (called t) (on-item-at t) on-item.Post
 unfolding code
@@ -53,17 +38,17 @@ on-item-analyze-requires t c κs =
     let args· = c .before .before .before .before .before .before .before .before .before .before .before .before .before .before .before .args in
     let mark-at· = c .before .before .before .before .before .before .before .mark-at in
     let match· = c .before .before .before .before .before .before .match in
-    (omega (arith, pre· .0), ((pre· .1 .0), not-held (args· .tree .now) (limits-of (args· .limits) [] []) (args· .nest) (args· .at) (pre· .1 .1) _ (sym (mark-at· .ensures .0)) (λ e. match· .rest .0 .0 .1 e) (λ e. match· .rest .0 .1 e) (λ e. match· .rest .1 e)))
+    (omega (arith, pre· .0), ((pre· .1 .0), not-held (args· .tree .now) (limits-of (args· .limits) [] []) (args· .nest) (args· .at) (pre· .1 .1) _ (sym (mark-at· .ensures .0)) (λ e. match· .rest .1 (inr (inl e))) (λ e. match· .rest .1 (inr (inr e))) (λ e. match· .rest .1 (inl e))))
 
-on-item-returns-4 : (t : ℕ) → on-item-lts.Need-returns-4 (called t) (on-item-at t) on-item.Post
+on-item-returns-2 : (t : ℕ) → on-item-lts.Need-returns-2 (called t) (on-item-at t) on-item.Post
 unfolding code naming-of
-on-item-returns-4 t c =
+on-item-returns-2 t c =
     let args· = c .before .before .before .before .before .before .before .before .before .before .before .before .before .before .before .before .before .before .before .before .before .before .before .before .before .before .before .before .args in
     let pre· = c .before .before .before .before .before .before .before .before .before .before .before .before .before .before .before .before .before .before .before .before .before .before .before .before .before .before .before .before .pre in
     let mark-at· = c .before .before .before .before .before .before .before .before .before .before .before .before .before .before .before .before .before .before .before .before .mark-at in
     let match· = c .before .before .before .before .before .before .before .before .before .before .before .before .before .before .before .before .before .before .before .match in
     let analyze· = c .before .before .before .before .before .before .before .before .before .before .before .before .analyze in
-    item-plain (args· .tree .now) (args· .nest) (args· .at) (pre· .1 .1) (sym (mark-at· .ensures .0)) (place-of (args· .here)) (λ e. match· .rest .0 .0 .1 e) (λ e. match· .rest .0 .1 e) (λ e. match· .rest .1 e) (analyze· .ensures)
+    item-plain (args· .tree .now) (args· .nest) (args· .at) (pre· .1 .1) (sym (mark-at· .ensures .0)) (place-of (args· .here)) (λ e. match· .rest .1 (inr (inl e))) (λ e. match· .rest .1 (inr (inr e))) (λ e. match· .rest .1 (inl e)) (analyze· .ensures)
 
 pub on-item-met : {M : Type 1} (t : ℕ) → on-item-lts.Closed (called t) (on-item-at t) on-item.Post M
 on-item-met t = on-item-lts.spec
@@ -72,8 +57,6 @@ on-item-met t = on-item-lts.spec
     on-item.Post
     (λ c κs. search needs)  -- mark-at-requires
     (on-item-on-held-requires t)
-    (on-item-on-held-requires-2 t)
-    (on-item-on-held-requires-3 t)
     (on-item-analyze-requires t)
     (λ c. c .before .before .before .before .before .before .before .before .before .before .before .before .on-held .kept .1 .0)  -- same-length
     (λ c. c .before .before .before .before .before .before .before .before .before .before .before .before .on-held .kept .1 .1 .0)  -- same-length-2
@@ -84,28 +67,10 @@ on-item-met t = on-item-lts.spec
     (λ c.  -- returns
     let on-held· = c .before .before .before .before .before .before .before .before .before .before .before .before .on-held in
     on-held· .ensures)
-    (λ c. c .before .before .before .before .before .before .before .before .before .before .before .before .on-held2 .kept .1 .0)  -- same-length-7
-    (λ c. c .before .before .before .before .before .before .before .before .before .before .before .before .on-held2 .kept .1 .1 .0)  -- same-length-8
-    (λ c. c .before .before .before .before .before .before .before .before .before .before .before .before .on-held2 .kept .1 .1 .1 .0)  -- same-length-9
-    (λ c. c .before .before .before .before .before .before .before .before .before .before .before .before .on-held2 .kept .1 .1 .1 .1 .0)  -- same-length-10
-    (λ c. c .before .before .before .before .before .before .before .before .before .before .before .before .on-held2 .kept .1 .1 .1 .1 .1 .0)  -- same-length-11
-    (λ c. c .before .before .before .before .before .before .before .before .before .before .before .before .on-held2 .kept .1 .1 .1 .1 .1 .1 .0)  -- same-length-12
-    (λ c.  -- returns-2
-    let on-held2· = c .before .before .before .before .before .before .before .before .before .before .before .before .on-held2 in
-    on-held2· .ensures)
-    (λ c. c .before .before .before .before .before .before .before .before .before .before .before .before .on-held3 .kept .1 .0)  -- same-length-13
-    (λ c. c .before .before .before .before .before .before .before .before .before .before .before .before .on-held3 .kept .1 .1 .0)  -- same-length-14
-    (λ c. c .before .before .before .before .before .before .before .before .before .before .before .before .on-held3 .kept .1 .1 .1 .0)  -- same-length-15
-    (λ c. c .before .before .before .before .before .before .before .before .before .before .before .before .on-held3 .kept .1 .1 .1 .1 .0)  -- same-length-16
-    (λ c. c .before .before .before .before .before .before .before .before .before .before .before .before .on-held3 .kept .1 .1 .1 .1 .1 .0)  -- same-length-17
-    (λ c. c .before .before .before .before .before .before .before .before .before .before .before .before .on-held3 .kept .1 .1 .1 .1 .1 .1 .0)  -- same-length-18
-    (λ c.  -- returns-3
-    let on-held3· = c .before .before .before .before .before .before .before .before .before .before .before .before .on-held3 in
-    on-held3· .ensures)
-    (λ c. c .before .before .before .before .before .before .before .before .before .before .before .before .analyze .kept .1 .0)  -- same-length-19
-    (λ c. c .before .before .before .before .before .before .before .before .before .before .before .before .analyze .kept .1 .1 .0)  -- same-length-20
-    (λ c. c .before .before .before .before .before .before .before .before .before .before .before .before .analyze .kept .1 .1 .1 .0)  -- same-length-21
-    (λ c. c .before .before .before .before .before .before .before .before .before .before .before .before .analyze .kept .1 .1 .1 .1 .0)  -- same-length-22
-    (λ c. c .before .before .before .before .before .before .before .before .before .before .before .before .analyze .kept .1 .1 .1 .1 .1 .0)  -- same-length-23
-    (λ c. c .before .before .before .before .before .before .before .before .before .before .before .before .analyze .kept .1 .1 .1 .1 .1 .1 .0)  -- same-length-24
-    (on-item-returns-4 t)
+    (λ c. c .before .before .before .before .before .before .before .before .before .before .before .before .analyze .kept .1 .0)  -- same-length-7
+    (λ c. c .before .before .before .before .before .before .before .before .before .before .before .before .analyze .kept .1 .1 .0)  -- same-length-8
+    (λ c. c .before .before .before .before .before .before .before .before .before .before .before .before .analyze .kept .1 .1 .1 .0)  -- same-length-9
+    (λ c. c .before .before .before .before .before .before .before .before .before .before .before .before .analyze .kept .1 .1 .1 .1 .0)  -- same-length-10
+    (λ c. c .before .before .before .before .before .before .before .before .before .before .before .before .analyze .kept .1 .1 .1 .1 .1 .0)  -- same-length-11
+    (λ c. c .before .before .before .before .before .before .before .before .before .before .before .before .analyze .kept .1 .1 .1 .1 .1 .1 .0)  -- same-length-12
+    (on-item-returns-2 t)

@@ -4,7 +4,7 @@ use borrow.Author.Needs.{needs}
 use native.Mathlib.Omega.{arith}
 use mathlib.Core.Bool.{false}
 use mathlib.Core.Path.{_≡_, refl, sym, _∙_, ap, subst}
-use Rattle.rules.specs.Numbers.{code, code-at}
+use Rattle.rules.specs.Numbers.{code-at}
 use Rattle.law_runs.specs.Run.{Accepted, items-at, run-items}
 use Rattle.state.specs.Seen.{buffers}
 use Rattle.state.specs.Walks.{place-of}
@@ -14,9 +14,9 @@ use Rattle.law_joins.proofs.Turns.{Turn, turned, either-turned, turn-begin, tur
 use Rattle.walkers.proofs.on_item.Reads as on-item
 use Rattle.walkers.proofs.on_items.Reads as on-items
 use Rattle.walkers.proofs.+analyze+on_array+on_assertions+on_bind+on_binds+on_fields+on_function+on_head+on_heads+on_held+on_item+on_items+on_local+on_members+on_object+on_param+on_params+on_plain+on_value+on_values.Lts-on_items as on-items-lts
+use Rattle.bytes_read.proofs.mark_at.Reads as mark-at-reads
 use Rattle.step_leaf.proofs.is_leaf.Reads as is-leaf-reads
 use Rattle.step_leaf.proofs.on_leaf.Reads as on-leaf-reads
-use Rattle.bytes_read.proofs.mark_at.Reads as mark-at-reads
 use Rattle.walkers.proofs.+analyze+on_array+on_assertions+on_bind+on_binds+on_fields+on_function+on_head+on_heads+on_held+on_item+on_items+on_local+on_members+on_object+on_param+on_params+on_plain+on_value+on_values.Proof.Measures.{on-item-below, on-items-at}
 
 -- what the members and functions that it calls ask and promise

@@ -3,7 +3,6 @@ use Prim.Native.Nat.{ℕ, _-_}
 use borrow.Author.Needs.{needs}
 use native.Mathlib.Omega.{arith}
 use mathlib.Core.Path.{refl, sym, _∙_}
-use Rattle.rules.specs.Numbers.{code}
 use Rattle.rules.specs.FirstWalk.{any-expression}
 use Rattle.rules.specs.Walk.{unnamed}
 use Rattle.law_runs.proofs.Reading.{expr-level}
@@ -20,12 +19,12 @@ use Rattle.walkers.proofs.analyze.Reads as analyze
 use Rattle.walkers.proofs.on_binds.Reads as on-binds
 use Rattle.walkers.proofs.on_local.Reads as on-local
 use Rattle.walkers.proofs.+analyze+on_array+on_assertions+on_bind+on_binds+on_fields+on_function+on_head+on_heads+on_held+on_item+on_items+on_local+on_members+on_object+on_param+on_params+on_plain+on_value+on_values.Lts-on_local as on-local-lts
+use Rattle.bytes_read.proofs.number_at.Reads as number-at-reads
+use Rattle.state.proofs.walked_past.Reads as walked-past-reads
 use Rattle.step_close.proofs.finish_local.Reads as finish-local-reads
 use Rattle.step_judge.proofs.settle_frame.Reads as settle-frame-reads
 use Rattle.step_open.proofs.begin_local.Reads as begin-local-reads
-use Rattle.bytes_read.proofs.number_at.Reads as number-at-reads
 use Rattle.step_place.proofs.deeper.Reads as deeper-reads
-use Rattle.walkers.proofs.not_kept.Reads as not-kept-reads
 use Rattle.walkers.proofs.+analyze+on_array+on_assertions+on_bind+on_binds+on_fields+on_function+on_head+on_heads+on_held+on_item+on_items+on_local+on_members+on_object+on_param+on_params+on_plain+on_value+on_values.Proof.Measures.{analyze-below, on-binds-below, on-local-at}
 
 -- what the members and functions that it calls ask and promise
@@ -39,8 +38,8 @@ called t = (
   begin-local-reads.Learnt,
   on-binds-below t,
   on-binds.Post,
-  not-kept-reads.Asked,
-  not-kept-reads.Learnt,
+  walked-past-reads.Asked,
+  walked-past-reads.Learnt,
   settle-frame-reads.Asked,
   settle-frame-reads.Learnt,
   deeper-reads.Asked,
@@ -100,8 +99,8 @@ on-local-returns-3 t c =
     let begun· = c .before .before .before .before .before .before .before .before .before .before .before .before .before .before .before .before .before .before .before .before .before .before .before .begun in
     let on-binds· = c .before .before .before .before .before .before .before .before .before .before .before .before .before .before .before .on-binds in
     let enum-told2· = c .before .enum-told2 in
-    let not-kept· = c .not-kept in
-    λ ν. local-binds-stopped (args· .tree .now) (args· .nest) (args· .at) (pre· .1 .1) ν (place-of (args· .here)) (number-at· .ensures) (if1· .left) (begin-local· .ensures .begun ((args· .nest) - 1) (local-binds-there (pre· .1 .0) (pre· .1 .1) (number-at· .ensures)) _ _ _ ((pre· .1 .0) .fit)) (begun· .given .1) (record { out = refl; diagnostics = begin-local· .kept .1 .0 }) (on-binds· .ensures) (enum-told2· .given .1) (unkept (not-kept· .ensures) (enum-told2· .given .1))
+    let walked-past· = c .walked-past in
+    λ ν. local-binds-stopped (args· .tree .now) (args· .nest) (args· .at) (pre· .1 .1) ν (place-of (args· .here)) (number-at· .ensures) (if1· .left) (begin-local· .ensures .begun ((args· .nest) - 1) (local-binds-there (pre· .1 .0) (pre· .1 .1) (number-at· .ensures)) _ _ _ ((pre· .1 .0) .fit)) (begun· .given .1) (record { out = refl; diagnostics = begin-local· .kept .1 .0 }) (on-binds· .ensures) (enum-told2· .given .1) (unkept (walked-past· .ensures) (enum-told2· .given .1))
 
 on-local-settle-frame-requires : (t : ℕ) → on-local-lts.Need-settle-frame-requires (called t) (on-local-at t) on-local.Post
 unfolding place-of naming-of
@@ -228,7 +227,7 @@ on-local-met t = on-local-lts.spec
     (on-local-on-binds-requires t)
     (λ c. search needs)  -- enum-known-specs
     (λ c. search needs)  -- enum-told-2
-    (λ c κs. search needs)  -- not-kept-requires
+    (λ c κs. search needs)  -- walked-past-requires
     (λ c. c .before .before .before .before .before .before .before .before .before .before .before .before .before .before .before .on-binds .kept .1 .0)  -- same-length-10
     (λ c. c .before .before .before .before .before .before .before .before .before .before .before .before .before .before .before .on-binds .kept .1 .1 .0 ∙ c .before .before .before .before .before .before .before .before .before .before .before .before .before .before .before .before .before .before .before .before .before .before .before .before .before .before .before .before .before .before .before .begin-local .kept .1 .0)  -- same-length-11
     (λ c. c .before .before .before .before .before .before .before .before .before .before .before .before .before .before .before .on-binds .kept .1 .1 .1 .0 ∙ c .before .before .before .before .before .before .before .before .before .before .before .before .before .before .before .before .before .before .before .before .before .before .before .before .before .before .before .before .before .before .before .begin-local .kept .1 .1 .0)  -- same-length-12

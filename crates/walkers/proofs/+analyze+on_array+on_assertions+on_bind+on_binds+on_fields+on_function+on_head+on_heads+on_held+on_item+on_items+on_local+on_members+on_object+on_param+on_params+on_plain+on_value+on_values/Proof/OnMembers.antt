@@ -3,7 +3,6 @@ use Prim.Native.Nat.{ℕ, _-_}
 use borrow.Author.Needs.{needs}
 use native.Mathlib.Omega.{arith}
 use mathlib.Core.Path.{refl, sym, _∙_, ap}
-use Rattle.rules.specs.Numbers.{code}
 use Rattle.rules.specs.FirstWalk.{any-expression}
 use Rattle.rules.specs.Walk as walk
 use Rattle.law_runs.proofs.Reading.{expr-level}
@@ -17,19 +16,19 @@ use Rattle.law_joins.proofs.Onward.{ready-object, ready-settled}
 use Rattle.law_joins.proofs.Asking.{settleable, fitting, locals-counted, references-counted}
 use Rattle.law_joins.proofs.Stages.{object-heads-there, members-binds-there, members-stage, members-end-asks, static-told}
 use Rattle.law_joins.proofs.Returns.{members-unbegun, members-binds-stopped, members-fields-stopped, members-ended}
-use Rattle.walkers.proofs.on_members.Reads as on-members
-use Rattle.walkers.proofs.+analyze+on_array+on_assertions+on_bind+on_binds+on_fields+on_function+on_head+on_heads+on_held+on_item+on_items+on_local+on_members+on_object+on_param+on_params+on_plain+on_value+on_values.Lts-on_members as on-members-lts
 use Rattle.walkers.proofs.on_binds.Reads as on-binds
 use Rattle.walkers.proofs.on_fields.Reads as on-fields
+use Rattle.walkers.proofs.on_members.Reads as on-members
+use Rattle.walkers.proofs.+analyze+on_array+on_assertions+on_bind+on_binds+on_fields+on_function+on_head+on_heads+on_held+on_item+on_items+on_local+on_members+on_object+on_param+on_params+on_plain+on_value+on_values.Lts-on_members as on-members-lts
+use Rattle.bytes_read.proofs.number_at.Reads as number-at-reads
+use Rattle.state.proofs.walked_past.Reads as walked-past-reads
 use Rattle.step_close.proofs.finish_object.Reads as finish-object-reads
-use Rattle.step_static.proofs.is_static.Reads as is-static-reads
 use Rattle.step_judge.proofs.settle_frame.Reads as settle-frame-reads
 use Rattle.step_open.proofs.begin_object.Reads as begin-object-reads
-use Rattle.bytes_read.proofs.number_at.Reads as number-at-reads
 use Rattle.step_place.proofs.deeper.Reads as deeper-reads
 use Rattle.step_place.proofs.in_object.Reads as in-object-reads
-use Rattle.walkers.proofs.not_kept.Reads as not-kept-reads
-use Rattle.walkers.proofs.+analyze+on_array+on_assertions+on_bind+on_binds+on_fields+on_function+on_head+on_heads+on_held+on_item+on_items+on_local+on_members+on_object+on_param+on_params+on_plain+on_value+on_values.Proof.Measures.{on-members-at, on-binds-below, on-fields-below}
+use Rattle.step_static.proofs.is_static.Reads as is-static-reads
+use Rattle.walkers.proofs.+analyze+on_array+on_assertions+on_bind+on_binds+on_fields+on_function+on_head+on_heads+on_held+on_item+on_items+on_local+on_members+on_object+on_param+on_params+on_plain+on_value+on_values.Proof.Measures.{on-binds-below, on-fields-below, on-members-at}
 
 -- what the members and functions that it calls ask and promise
 abbrev called : (t : ℕ) → on-members-lts.Claims
@@ -42,8 +41,8 @@ called t = (
   begin-object-reads.Learnt,
   on-binds-below t,
   on-binds.Post,
-  not-kept-reads.Asked,
-  not-kept-reads.Learnt,
+  walked-past-reads.Asked,
+  walked-past-reads.Learnt,
   settle-frame-reads.Asked,
   settle-frame-reads.Learnt,
   deeper-reads.Asked,
@@ -119,7 +118,7 @@ on-members-met t = on-members-lts.spec
     (omega (arith, pre· .0, (expr-level (args· .tree .now) (args· .nest) any-expression (args· .object) ((pre· .1 .1) .there .read))), ((ready-on (omega arith) (omega arith) (ready-object ((args· .nest) - 1) _ (args· .object) (args· .at) (in-object· .ensures .same ∙ ap (λ (k : ℕ). walk.in-object k (place-of (args· .here))) (sym (locals-counted (buffers (args· .out .now) (args· .diagnostics .now) (args· .locals .now) (args· .frames .now) (args· .captures .now) (args· .references .now)) (args· .st)))) (in-object· .ensures .depth) (pre· .1 .0) (begin-object· .ensures .begun ((args· .nest) - 1) (members-binds-there (pre· .1 .0) (pre· .1 .1) (number-at· .ensures)) _ _ _ ((pre· .1 .0) .fit)) (begun· .given .1))), ((members-binds-there (pre· .1 .0) (pre· .1 .1) (number-at· .ensures)), omega arith))))
     (λ c. search needs)  -- enum-known-specs
     (λ c. search needs)  -- enum-told-2
-    (λ c κs. search needs)  -- not-kept-requires
+    (λ c κs. search needs)  -- walked-past-requires
     (λ c. c .before .before .before .before .before .before .before .before .before .before .before .before .before .before .before .on-binds .kept .1 .0)  -- same-length-4
     (λ c. c .before .before .before .before .before .before .before .before .before .before .before .before .before .before .before .on-binds .kept .1 .1 .0 ∙ c .before .before .before .before .before .before .before .before .before .before .before .before .before .before .before .before .before .before .before .before .before .before .before .before .before .before .before .before .before .before .before .begin-object .kept .1 .0)  -- same-length-5
     (λ c. c .before .before .before .before .before .before .before .before .before .before .before .before .before .before .before .on-binds .kept .1 .1 .1 .0 ∙ c .before .before .before .before .before .before .before .before .before .before .before .before .before .before .before .before .before .before .before .before .before .before .before .before .before .before .before .before .before .before .before .begin-object .kept .1 .1 .0)  -- same-length-6
@@ -135,8 +134,8 @@ on-members-met t = on-members-lts.spec
     let in-object· = c .before .before .before .before .before .before .before .before .before .before .before .before .before .before .before .before .before .before .before .before .before .before .before .before .before .before .before .before .before .before .before .before .before .before .before .in-object in
     let on-binds· = c .before .before .before .before .before .before .before .before .before .before .before .before .before .before .before .on-binds in
     let enum-told2· = c .before .enum-told2 in
-    let not-kept· = c .not-kept in
-    members-binds-stopped (args· .tree .now) (args· .nest) (args· .at) (args· .object) (place-of (args· .here)) (number-at· .ensures) (begin-object· .ensures .begun ((args· .nest) - 1) (members-binds-there (pre· .1 .0) (pre· .1 .1) (number-at· .ensures)) _ _ _ ((pre· .1 .0) .fit)) (begun· .given .1) (record { out = refl; diagnostics = begin-object· .kept .1 .0 }) (in-object· .ensures .same ∙ ap (λ (k : ℕ). walk.in-object k (place-of (args· .here))) (sym (locals-counted (buffers (args· .out .now) (args· .diagnostics .now) (args· .locals .now) (args· .frames .now) (args· .captures .now) (args· .references .now)) (args· .st)))) (on-binds· .ensures) (enum-told2· .given .1) (unkept (not-kept· .ensures) (enum-told2· .given .1)))
+    let walked-past· = c .walked-past in
+    members-binds-stopped (args· .tree .now) (args· .nest) (args· .at) (args· .object) (place-of (args· .here)) (number-at· .ensures) (begin-object· .ensures .begun ((args· .nest) - 1) (members-binds-there (pre· .1 .0) (pre· .1 .1) (number-at· .ensures)) _ _ _ ((pre· .1 .0) .fit)) (begun· .given .1) (record { out = refl; diagnostics = begin-object· .kept .1 .0 }) (in-object· .ensures .same ∙ ap (λ (k : ℕ). walk.in-object k (place-of (args· .here))) (sym (locals-counted (buffers (args· .out .now) (args· .diagnostics .now) (args· .locals .now) (args· .frames .now) (args· .captures .now) (args· .references .now)) (args· .st)))) (on-binds· .ensures) (enum-told2· .given .1) (unkept (walked-past· .ensures) (enum-told2· .given .1)))
     (λ c κs.  -- settle-frame-requires
     let pre· = c .before .before .before .before .before .before .before .before .before .before .before .before .before .before .before .before .before .before .before .before .before .before .before .before .before .before .before .before .before .before .before .before .before .before .before .before .before .before .before .before .before .before .before .before .before .before .pre in
     let number-at· = c .before .before .before .before .before .before .before .before .before .before .before .before .before .before .before .before .before .before .before .before .before .before .before .before .before .before .before .before .before .before .before .before .before .before .before .before .before .before .number-at in

@@ -1,9 +1,8 @@
 -- The walk over an object: each need of its code, answered from the laws of joins. Assumes nothing.
-use Prim.Native.Nat.{ℕ, _-_}
+use Prim.Native.Nat.{ℕ}
 use borrow.Author.Needs.{needs}
 use native.Mathlib.Omega.{arith}
 use mathlib.Core.Path.{_∙_}
-use Rattle.rules.specs.Numbers.{code}
 use Rattle.rules.specs.FirstWalk.{any-expression}
 use Rattle.law_runs.proofs.Reading.{expr-level}
 use Rattle.law_runs.proofs.Expressions.{object-size}
@@ -12,12 +11,12 @@ use Rattle.law_joins.proofs.Readiness.{ready-on}
 use Rattle.law_joins.proofs.Onward.{ready-heads}
 use Rattle.law_joins.proofs.Stages.{object-heads-there, object-members}
 use Rattle.law_joins.proofs.Returns.{object-heads-stopped, object-ended}
-use Rattle.walkers.proofs.on_members.Reads as on-members
 use Rattle.walkers.proofs.on_heads.Reads as on-heads
+use Rattle.walkers.proofs.on_members.Reads as on-members
 use Rattle.walkers.proofs.on_object.Reads as on-object
 use Rattle.walkers.proofs.+analyze+on_array+on_assertions+on_bind+on_binds+on_fields+on_function+on_head+on_heads+on_held+on_item+on_items+on_local+on_members+on_object+on_param+on_params+on_plain+on_value+on_values.Lts-on_object as on-object-lts
 use Rattle.bytes_read.proofs.number_at.Reads as number-at-reads
-use Rattle.walkers.proofs.+analyze+on_array+on_assertions+on_bind+on_binds+on_fields+on_function+on_head+on_heads+on_held+on_item+on_items+on_local+on_members+on_object+on_param+on_params+on_plain+on_value+on_values.Proof.Measures.{on-members-below, on-heads-below, on-object-at}
+use Rattle.walkers.proofs.+analyze+on_array+on_assertions+on_bind+on_binds+on_fields+on_function+on_head+on_heads+on_held+on_item+on_items+on_local+on_members+on_object+on_param+on_params+on_plain+on_value+on_values.Proof.Measures.{on-heads-below, on-members-below, on-object-at}
 
 -- what the members and functions that it calls ask and promise
 abbrev called : (t : ℕ) → on-object-lts.Claims

@@ -3,8 +3,6 @@ use Prim.Native.Nat.{ℕ, _-_}
 use borrow.Author.Needs.{needs}
 use native.Mathlib.Omega.{arith}
 use mathlib.Core.Path.{_∙_}
-use Rattle.rules.specs.Numbers.{code}
-use Rattle.rules.specs.Records.{size-of}
 use Rattle.rules.specs.FirstWalk.{any-expression}
 use Rattle.law_runs.proofs.Reading.{expr-level}
 use Rattle.state.specs.Walks.{place-of}
@@ -16,9 +14,9 @@ use Rattle.law_joins.proofs.Returns.{plain-stopped, plain-ended}
 use Rattle.walkers.proofs.on_items.Reads as on-items
 use Rattle.walkers.proofs.on_plain.Reads as on-plain
 use Rattle.walkers.proofs.+analyze+on_array+on_assertions+on_bind+on_binds+on_fields+on_function+on_head+on_heads+on_held+on_item+on_items+on_local+on_members+on_object+on_param+on_params+on_plain+on_value+on_values.Lts-on_plain as on-plain-lts
-use Rattle.step_copy.proofs.copy_record.Reads as copy-record-reads
 use Rattle.bytes_records.proofs.children.Reads as children-reads
 use Rattle.bytes_records.proofs.size_of.Reads as size-of-reads
+use Rattle.step_copy.proofs.copy_record.Reads as copy-record-reads
 use Rattle.walkers.proofs.+analyze+on_array+on_assertions+on_bind+on_binds+on_fields+on_function+on_head+on_heads+on_held+on_item+on_items+on_local+on_members+on_object+on_param+on_params+on_plain+on_value+on_values.Proof.Measures.{on-items-below, on-plain-at}
 
 -- what the members and functions that it calls ask and promise

@@ -1,10 +1,9 @@
 -- The walk over a field's value: each need of its code, answered from the laws of joins. Assumes nothing.
-use Prim.Native.Nat.{ℕ, _-_}
+use Prim.Native.Nat.{ℕ}
 use borrow.Author.Needs.{needs}
 use native.Mathlib.Omega.{arith}
 use mathlib.Core.Bool.{false}
 use mathlib.Core.Path.{refl, _∙_}
-use Rattle.rules.specs.Numbers.{code}
 use Rattle.law_runs.proofs.Lists.{value-there, value-head-fits}
 use Rattle.state.specs.Walks.{place-of, naming-of}
 use Rattle.law_joins.proofs.Joining.{unopened, went-fit}
@@ -14,10 +13,10 @@ use Rattle.law_joins.proofs.Returns.{value-unopened, value-stopped, value-ended
 use Rattle.walkers.proofs.analyze.Reads as analyze
 use Rattle.walkers.proofs.on_value.Reads as on-value
 use Rattle.walkers.proofs.+analyze+on_array+on_assertions+on_bind+on_binds+on_fields+on_function+on_head+on_heads+on_held+on_item+on_items+on_local+on_members+on_object+on_param+on_params+on_plain+on_value+on_values.Lts-on_value as on-value-lts
-use Rattle.step_shape.proofs.close_value.Reads as close-value-reads
-use Rattle.step_place.proofs.head_naming.Reads as head-naming-reads
-use Rattle.walkers.proofs.not_opened.Reads as not-opened-reads
+use Rattle.state.proofs.walked_to.Reads as walked-to-reads
 use Rattle.step_frame.proofs.open_frame.Reads as open-frame-reads
+use Rattle.step_place.proofs.head_naming.Reads as head-naming-reads
+use Rattle.step_shape.proofs.close_value.Reads as close-value-reads
 use Rattle.walkers.proofs.+analyze+on_array+on_assertions+on_bind+on_binds+on_fields+on_function+on_head+on_heads+on_held+on_item+on_items+on_local+on_members+on_object+on_param+on_params+on_plain+on_value+on_values.Proof.Measures.{analyze-below, on-value-at}
 
 -- what the members and functions that it calls ask and promise
@@ -25,8 +24,8 @@ abbrev called : (t : ℕ) → on-value-lts.Claims
 called t = (
   open-frame-reads.Asked,
   open-frame-reads.Learnt,
-  not-opened-reads.Asked,
-  not-opened-reads.Learnt,
+  walked-to-reads.Asked,
+  walked-to-reads.Learnt,
   head-naming-reads.Asked,
   head-naming-reads.Learnt,
   analyze-below t,
@@ -48,8 +47,8 @@ on-value-returns t c =
     let pre· = c .before .before .before .before .before .before .before .before .before .before .before .before .before .before .pre in
     let open-frame· = c .before .before .before .before .before .open-frame in
     let enum-told· = c .before .enum-told in
-    let not-opened· = c .not-opened in
-    value-unopened (args· .tree .now) (args· .nest) (args· .head) (args· .at) (pre· .1 .1) (place-of (args· .here)) (opened (open-frame· .ensures) ((pre· .1 .0) .fit)) (enum-told· .given .1) (unopened (not-opened· .ensures) (enum-told· .given .1))
+    let walked-to· = c .walked-to in
+    value-unopened (args· .tree .now) (args· .nest) (args· .head) (args· .at) (pre· .1 .1) (place-of (args· .here)) (opened (open-frame· .ensures) ((pre· .1 .0) .fit)) (enum-told· .given .1) (unopened (walked-to· .ensures) (enum-told· .given .1))
 
 on-value-head-naming-requires : (t : ℕ) → on-value-lts.Need-head-naming-requires (called t) (on-value-at t) on-value.Post
 unfolding naming-of
@@ -107,7 +106,7 @@ on-value-met t = on-value-lts.spec
     (on-value-open-frame-requires t)
     (λ c. search needs)  -- enum-known-opened
     (λ c. search needs)  -- enum-told
-    (λ c κs. search needs)  -- not-opened-requires
+    (λ c κs. search needs)  -- walked-to-requires
     (λ c. c .before .before .before .before .before .open-frame .kept .0)  -- same-length
     (on-value-returns t)
     (on-value-head-naming-requires t)

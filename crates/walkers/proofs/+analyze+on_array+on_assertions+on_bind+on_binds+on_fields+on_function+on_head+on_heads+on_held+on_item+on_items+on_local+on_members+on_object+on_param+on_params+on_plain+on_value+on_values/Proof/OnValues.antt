@@ -3,7 +3,6 @@ use Prim.Native.Nat.{ℕ, _-_}
 use borrow.Author.Needs.{needs}
 use native.Mathlib.Omega.{arith}
 use mathlib.Core.Path.{_∙_}
-use Rattle.rules.specs.Numbers.{code}
 use Rattle.state.specs.Seen.{buffers}
 use Rattle.law_joins.proofs.Turns.{Turn-values, values-begin, values-end, turn-value, turn-head-fits, values-stops, values-turn}
 use Rattle.walkers.proofs.on_value.Reads as on-value

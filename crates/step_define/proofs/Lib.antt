@@ -1,2 +1,0 @@
--- What the proof uses.
-pub mod Laws

@@ -1,2 +1,0 @@
--- What the contract cites beside the rules.
-pub mod Answers
