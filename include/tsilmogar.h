@@ -99,13 +99,13 @@ enum tsilmogar_code {
  * report       takes the nine numbers of enum tsilmogar_report
  *
  * What comes back. An accepted call: report[TSILMOGAR_NUMBER] is 0, `out` and `diagnostics` hold as many bytes as the
- * report says and zeros behind them, the tables are zero. A refused call: the report has the refusal's number and
+ * report says and zeros after them, the tables are zero. A refused call: the report has the refusal's number and
  * place and else zeros, and all six buffers are zero from end to end. What the buffers held before makes no
  * difference. Every call writes all six from end to end, so a call costs at least what clearing them does.
  *
  * What the caller owes:
  * - no pointer is null, not even one whose length is 0, and each is aligned for its type;
- * - each points to as many numbers as the length behind it says, the report to nine, all of them initialised (calloc);
+ * - each points to as many numbers as the length after it says, the report to nine, all of them initialised (calloc);
  * - none of the six buffers overlaps another of them, the tree or the report;
  * - nothing else reads or writes the buffers, or writes the tree, until the call returns;
  * - there is stack: the analyser calls itself for each level of nesting, and no proof bounds that. Of trees nested 200

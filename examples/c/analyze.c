@@ -54,7 +54,7 @@ static const char *const codes[] = {
     [TSILMOGAR_IDENTITY] = "a function that answers its parameter",
 };
 
-/* Something that is lent: so many entries of a size in bytes, which may become as many as the cap. */
+/* Memory for the analyser: so many entries of a size in bytes, which may become as many as the cap. */
 struct room {
     void *memory;
     uint32_t entries;
