@@ -105,7 +105,7 @@ constants_back [] small h = refl
 constants_back {s = s} {p = p} (v ∷ vs) small h =
     let here = piece_first (record_bytes TV (v ∷ [])) (constants_bytes vs) h in
     let value : number_at s (p + 2) ≡ v = ap (λ (ns : List ℕ). get_or ns 0 0) (numbers_back (v ∷ []) (small.0, tt) (piece_second (mark_bytes TV) (numbers_bytes (v ∷ [])) here)) in
-    rw (constant_back v here, value, constants_back vs small.1 (piece_second (record_bytes TV (v ∷ [])) (constants_bytes vs) h))
+    rw (constant_back v here, value, constants_back {p = p + 6} vs small.1 (piece_second (record_bytes TV (v ∷ [])) (constants_bytes vs) h))
 
 module _ (s : List ℕ) where
   constant_read : (p : ℕ) → constant_at s p ≡ true → record_at s (rows any_expression) p ≡ ok (record { mark = TV; row = a_constant; numbers = number_at s (p + 2) ∷ []; next = p + 6 })

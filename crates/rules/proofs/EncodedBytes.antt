@@ -25,7 +25,7 @@ numbers_are_bytes (n ∷ ns) = (omega arith, (omega arith, (omega arith, (omega 
 -- a mark is two letters
 code_small : (m : Mark) → code m < 65536
 unfolding code
-code_small m = elim m [
+code_small m = elim m as (λ (k : Mark). code k < 65536) [
   | JT ↦ lit< tt
   | ID ↦ lit< tt
   | TV ↦ lit< tt

@@ -1,5 +1,6 @@
 -- Every refusal that the first walk or the analysis gives has one of document 01's numbers, by induction over both. Assumes nothing.
-use Prim.Native.Nat.{ℕ, zero, suc}
+use Prim.Native.Nat.{ℕ, zero, suc, ◌+◌}
+use lib.ListN.{length}
 use mathlib.Core.Bool.{Bool, true, false}
 use mathlib.Core.List.{List, [], ◌∷◌}
 use mathlib.Core.Option.{Option, none, some}
@@ -123,7 +124,7 @@ numbered_resolve : (most p above id : ℕ) (fs : List ClosureFrame) → Numbered
 unfolding resolve_at
 numbered_resolve most p above id [] = answers
 numbered_resolve most p above id (f ∷ fs) = numbered_choose _ _ _ answers (numbered_given _ _ _
-    (numbered_bind _ (numbered_resolve most p _ id fs) λ _. numbered_need _ _ _ _ refl (numbered_need _ _ _ _ refl answers)) λ _. answers)
+    (numbered_bind _ (numbered_resolve most p (above + length f.captures) id fs) λ _. numbered_need _ _ _ _ refl (numbered_need _ _ _ _ refl answers)) λ _. answers)
 
 module _ (L : Limits) where
   numbered_emit : (p : ℕ) (m : Mark) (ns : List ℕ) (st : AnalysisStack) → Numbered (emit L p m ns st)

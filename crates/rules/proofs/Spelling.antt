@@ -97,5 +97,5 @@ number_back {p = p} n small h =
 pub numbers_back : {s : List ℕ} {p q : ℕ} (ns : List ℕ) → Numbers ns → Piece s p (numbers_bytes ns) q → numbers_at s (length ns) p ≡ ns
 unfolding numbers_at numbers_bytes Numbers number_bytes
 numbers_back [] small h = refl
-numbers_back {s = s} (n ∷ ns) small h =
-    ap₂ {C = List ℕ} ◌∷◌ (number_back n small.0 (piece_first (number_bytes n) (numbers_bytes ns) h)) (numbers_back ns small.1 (piece_second (number_bytes n) (numbers_bytes ns) h))
+numbers_back {s = s} {p = p} {q = q} (n ∷ ns) small h =
+    ap₂ {C = List ℕ} ◌∷◌ (number_back n small.0 (piece_first (number_bytes n) (numbers_bytes ns) h)) (numbers_back {p = p + length (number_bytes n)} ns small.1 (piece_second (number_bytes n) (numbers_bytes ns) h))
