@@ -66,7 +66,7 @@ constant_bytes (array place items) h = absurd (false≢true h)
 constant_bytes (plain place mark numbers children) h = absurd (false≢true h)
 constant_bytes (import place which span is_literal path) h = absurd (false≢true h)
 constant_bytes (local place binds body) h = absurd (false≢true h)
-constant_bytes (function place span params body) h = absurd (false≢true h)
+constant_bytes (function place span ps body) h = absurd (false≢true h)
 constant_bytes (object place heads locals assertions values) h = absurd (false≢true h)
 
 front_none : (v : ℕ) (o : Option (List ℕ)) → front v o ≡ none → o ≡ none

@@ -1,5 +1,5 @@
 -- The whole call: what it answers and what it leaves in every buffer lent to it, for every input. Assumes nothing.
-use Rattle.std.specs.Prelude.{ℕ, zero, suc, ◌+◌, ◌*◌, ◌-◌, Bool, true, false, ◌&&◌, List, [], ◌∷◌, ◌++◌, ◌≡◌, length, replicate, leb}
+use Rattle.std.specs.Prelude.{ℕ, suc, ◌*◌, ◌-◌, Bool, true, false, ◌&&◌, List, [], ◌∷◌, ◌++◌, ◌≡◌, length, replicate, leb}
 use Rattle.std.proofs.Math.Option.{some}
 use Rattle.rules.specs.Outcome.{Outcome, ok, refuse, ◌>>=◌, need}
 use Rattle.rules.specs.Numbers.{Name}

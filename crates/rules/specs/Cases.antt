@@ -1,10 +1,8 @@
 -- Worked cases as tables: a call, and the whole answer that it must have. Assumes nothing.
 use Rattle.std.specs.Prelude.{ℕ, ◌*◌, Bool, true, false, List, [], ◌∷◌, length, replicate}
-use Rattle.rules.specs.Outcome.{Outcome}
 use Rattle.rules.specs.Numbers.{Record, records_bytes, never}
 use Rattle.rules.specs.Numbers.{JT, ID, TV, VA, AR, BI, LO, FN, OB, BV, PA, FH, LS, CS, BL, IY, FV, SH, DG}
-use Rattle.rules.specs.Depths.{AnalysisResult}
-use Rattle.rules.specs.State.{Limits, AnalysisStack}
+use Rattle.rules.specs.State.{Limits}
 use Rattle.rules.specs.Call.{Lent, AnalysisReport, run, report_of, out_of, diagnostics_of}
 
 -- a report, and both buffers up to their lengths

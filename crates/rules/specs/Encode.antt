@@ -1,5 +1,5 @@
 -- A tree as the bytes that document 01's table gives: "Children follow their record in this order". Assumes nothing.
-use Rattle.std.specs.Prelude.{ℕ, zero, suc, Bool, true, false, List, [], ◌∷◌, ◌++◌, length}
+use Rattle.std.specs.Prelude.{ℕ, Bool, true, false, List, [], ◌∷◌, ◌++◌, length}
 use Rattle.rules.specs.Numbers.{Mark, JT, ID, TV, VA, AR, LO, IM, FN, OB, BV, BF, PA, FH, bit, record_bytes, numbers_bytes}
 use Rattle.rules.specs.Records.{span_numbers}
 use Rattle.rules.specs.Tree.{Expr, Exprs, Binds, Params, Heads, Head, Tree, count_exprs, count_binds, count_params, count_heads}

@@ -2,7 +2,7 @@
 use Rattle.std.specs.Prelude.{ℕ, zero, suc, ◌+◌, ◌*◌, ◌/◌, ◌%◌, Bool, true, false, List, [], ◌∷◌, length, get_or, leb, eqb}
 use Rattle.std.proofs.Math.Option.{Option, none, some}
 use Rattle.rules.specs.Outcome.{choose, given, Outcome, ok, refuse, ◌>>=◌, need}
-use Rattle.rules.specs.Numbers.{Name, number_at, numbers_at, code, code_at, is_set}
+use Rattle.rules.specs.Numbers.{number_at, numbers_at, code, code_at, is_set}
 use Rattle.rules.specs.Numbers.{Mark, JT, ID, TV, VA, AR, OX, UN, BI, AS, LO, ER, IM, AP, IX, FN, IF, SC, OB, BV, BF, PA, AT, FH, NA, PT}
 use Rattle.rules.specs.Records.{Span, span_width, span_in, fields, numbers_of, size_of, all_in_range}
 use Rattle.rules.specs.Tree.{Expr, Exprs, Binds, Params, Heads, Head, Tree}

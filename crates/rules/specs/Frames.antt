@@ -1,7 +1,7 @@
 -- Frames, resolving and captures (`ClosureFrame`, `DefiningClosure`, `resolve_at`). Assumes nothing.
-use Rattle.std.specs.Prelude.{ℕ, zero, suc, ◌+◌, ◌-◌, Bool, true, false, ◌&&◌, List, [], ◌∷◌, ◌++◌, length, ltb, leb, eqb}
+use Rattle.std.specs.Prelude.{ℕ, suc, ◌+◌, ◌-◌, Bool, true, ◌&&◌, List, [], ◌∷◌, ◌++◌, length, ltb, leb, eqb}
 use Rattle.std.proofs.Math.Option.{Option, none, some}
-use Rattle.rules.specs.Outcome.{choose, given, Outcome, ok, refuse, ◌>>=◌, need}
+use Rattle.rules.specs.Outcome.{choose, given, Outcome, ok, ◌>>=◌, need}
 
 -- "`LSlot` stays a choice of the two slot kinds"
 pub data LSlot : Type 0 where

@@ -1,5 +1,5 @@
 -- Locals and their uses (`LocalDefinition`). Assumes nothing.
-use Rattle.std.specs.Prelude.{ℕ, zero, suc, ◌+◌, min, Bool, true, false, not, List, [], ◌∷◌, map, length, get_or, eqb}
+use Rattle.std.specs.Prelude.{ℕ, zero, suc, ◌+◌, min, Bool, true, false, not, List, [], ◌∷◌, map, get_or, eqb}
 use Rattle.std.proofs.Math.Option.{Option, none, some}
 use Rattle.rules.specs.Outcome.{choose, given}
 use Rattle.rules.specs.Numbers.{Name, never, same_name}

@@ -1,13 +1,12 @@
 -- Our own table of worked cases: small trees for the rules that the starred cases pass over, and each refusal that a small tree can have. Assumes nothing.
 -- The answers to accepted trees are the original Rust's, the refusals are those of a model written from document 01 alone.
 -- A name is a letter by its place in the alphabet; spans count from 101 in the tree's order; + is 60, unary - is 61.
-use Rattle.std.specs.Prelude.{ℕ, zero, suc, Bool, true, false, List, [], ◌∷◌, ◌++◌, replicate}
+use Rattle.std.specs.Prelude.{ℕ, zero, suc, true, false, List, [], ◌∷◌, ◌++◌, replicate}
 use Rattle.rules.specs.Numbers.{Record, records_bytes, never}
 use Rattle.rules.specs.Numbers.{JT, ID, TV, VA, AR, OX, UN, BI, AS, LO, ER, IM, AP, IX, FN, IF, SC, OB, BV, BF, PA, AT, FH, NA, PT, LS, CS, SU, BL, AC, IY, FV, SH, DG}
-use Rattle.rules.specs.Depths.{AnalysisResult}
 use Rattle.rules.specs.State.{Limits}
-use Rattle.rules.specs.Call.{Lent, AnalysisReport}
-use Rattle.rules.specs.Cases.{Case, Answer, lend, ample, accepted}
+use Rattle.rules.specs.Call.{Lent}
+use Rattle.rules.specs.Cases.{Case, lend, ample, accepted}
 
 unfoldable pub room : (locals frames captures references out diagnostics : ℕ) → Limits
 room locals frames captures references out diagnostics = record {

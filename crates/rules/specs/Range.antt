@@ -3,10 +3,10 @@ use Rattle.std.specs.Prelude.{ℕ, zero, suc, ◌+◌, ◌*◌, ◌-◌, ◌<◌
 use Rattle.std.proofs.Math.Option.{Option, none, some}
 use Rattle.rules.specs.Numbers.{Mark, JT, ID, TV, VA, AR, LO, IM, FN, OB, PA, FH, bit, code}
 use Rattle.rules.specs.Records.{span_numbers, fields, numbers_of, size_of, all_in_range}
-use Rattle.rules.specs.Tree.{Expr, Exprs, Binds, Params, Heads, Head, Tree, count_exprs, count_binds, count_params, count_heads}
+use Rattle.rules.specs.Tree.{Expr, Exprs, Binds, Params, Heads, Tree, count_exprs, count_binds, count_params, count_heads}
 use Rattle.rules.specs.Tree.{identity, constant, variable, constants, array, plain, import, local, function, object}
 use Rattle.rules.specs.Tree.{no_exprs, ◌then◌, no_binds, bind, no_params, param, param_or, no_heads, fixed, computed}
-use Rattle.rules.specs.Encode.{bind_mark, head_numbers, expr_bytes, exprs_bytes, binds_bytes, params_bytes, heads_bytes, constants_bytes}
+use Rattle.rules.specs.Encode.{bind_mark, head_numbers, expr_bytes, exprs_bytes, binds_bytes, params_bytes, heads_bytes}
 use Rattle.rules.specs.FirstWalk.{Allowed, any_expression, function_only, Child, level, holder, Groups, expressions, assertion, rows, row_of, only, value_groups}
 use Rattle.rules.specs.FirstWalk.{Form, an_identity, a_constant, a_variable, an_array, an_import, a_local, a_function, an_object, parts}
 
@@ -60,7 +60,7 @@ is_constant (array place items) = false
 is_constant (plain place mark numbers children) = false
 is_constant (import place which span is_literal path) = false
 is_constant (local place binds body) = false
-is_constant (function place span params body) = false
+is_constant (function place span ps body) = false
 is_constant (object place heads locals assertions values) = false
 
 unfoldable pub all_constant : Exprs → Bool

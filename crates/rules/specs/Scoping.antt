@@ -1,14 +1,14 @@
 -- The steps on a frame's names: defining, using, keeping a spec, settling, judging at the end. Assumes nothing.
-use Rattle.std.specs.Prelude.{ℕ, zero, suc, ◌+◌, ◌-◌, Bool, true, false, ◌&&◌, ◌||◌, List, [], ◌∷◌, ◌++◌, map, reverse, length, set, take, drop, ltb, leb, eqb}
-use Rattle.std.proofs.Math.Option.{Option, none, some}
-use Rattle.rules.specs.Outcome.{choose, given, Outcome, ok, refuse, ◌>>=◌, need}
+use Rattle.std.specs.Prelude.{ℕ, suc, ◌+◌, ◌-◌, Bool, true, false, ◌&&◌, List, [], ◌∷◌, ◌++◌, map, reverse, length, set, take, drop, ltb, leb, eqb}
+use Rattle.std.proofs.Math.Option.{none, some}
+use Rattle.rules.specs.Outcome.{choose, given, Outcome, ok, ◌>>=◌, need}
 use Rattle.rules.specs.Numbers.{Name, never, Mark}
 use Rattle.rules.specs.Records.{Span, no_span}
 use Rattle.rules.specs.Depths.{AnalysisResult, taint_by, depend_on_local, depend_on_object}
 use Rattle.rules.specs.Tree.{Binding, at_record, external}
 use Rattle.rules.specs.Locals.{LocalDefinition, new_local, local_at, newest, use_at, note_reference, noted, without_notes, passed_on, with_analysis}
-use Rattle.rules.specs.Frames.{ClosureFrame, Resolved, top, beneath, with_one_more_local, resolve_to_slot}
-use Rattle.rules.specs.Settling.{Reference, Loop, settled, propagate_use}
+use Rattle.rules.specs.Frames.{top, beneath, with_one_more_local, resolve_to_slot}
+use Rattle.rules.specs.Settling.{Loop, settled, propagate_use}
 use Rattle.rules.specs.State.{Limits, AnalysisStack, with_locals, with_frames, with_references, with_taint, with_rounds, taken_back}
 use Rattle.rules.specs.Writing.{error, warning, emit, report, close_frame, slot_mark, slot_number}
 

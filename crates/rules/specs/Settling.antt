@@ -1,8 +1,7 @@
 -- "Both settling loops run as in 000, spec by spec in order, until a round changes nothing": the loops and their rounds. Assumes nothing.
-use Rattle.std.specs.Prelude.{ℕ, zero, suc, Bool, true, false, not, ◌||◌, List, [], ◌∷◌, set, ltb, eqb}
+use Rattle.std.specs.Prelude.{ℕ, zero, suc, Bool, true, false, not, ◌||◌, List, [], ◌∷◌, set, ltb}
 use Rattle.rules.specs.Outcome.{choose}
-use Rattle.rules.specs.Numbers.{never}
-use Rattle.rules.specs.Depths.{AnalysisResult, taint_by, depend_on_local, same_result}
+use Rattle.rules.specs.Depths.{taint_by, depend_on_local, same_result}
 use Rattle.rules.specs.Locals.{LocalDefinition, local_at, with_analysis, with_used_at_depth}
 
 -- a reference kept for a spec: the spec's own local, and the sibling that its value referred to. They stand spec by spec

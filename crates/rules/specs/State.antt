@@ -1,5 +1,5 @@
 -- What the analysis carries from record to record (`AnalysisStack`), and what it may not pass. Assumes nothing.
-use Rattle.std.specs.Prelude.{ℕ, Bool, true, false, List, [], ◌∷◌, length, take}
+use Rattle.std.specs.Prelude.{ℕ, Bool, false, List, [], length, take}
 use Rattle.rules.specs.Depths.{AnalysisResult, no_dependence}
 use Rattle.rules.specs.Locals.{LocalDefinition}
 use Rattle.rules.specs.Frames.{ClosureFrame}

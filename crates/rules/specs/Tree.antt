@@ -1,5 +1,5 @@
 -- The tree: each record with its place, the offset of its mark. Assumes nothing.
-use Rattle.std.specs.Prelude.{ℕ, zero, suc, Bool, true, false, List}
+use Rattle.std.specs.Prelude.{ℕ, zero, suc, Bool, List}
 use Rattle.rules.specs.Numbers.{Name, Mark}
 use Rattle.rules.specs.Records.{Span}
 
@@ -82,7 +82,7 @@ place_of (array place items) = place
 place_of (plain place mark numbers children) = place
 place_of (import place which span is_literal path) = place
 place_of (local place binds body) = place
-place_of (function place span params body) = place
+place_of (function place span ps body) = place
 place_of (object place heads locals assertions values) = place
 
 -- "A binding there is a record of the tree, or an external by its position"

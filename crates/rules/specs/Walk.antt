@@ -2,11 +2,11 @@
 use Rattle.std.specs.Prelude.{ℕ, zero, suc, ◌+◌, Bool, true, false, not, ◌&&◌, ◌||◌, length, drop, eqb}
 use mathlib.Core.List.{List, [], ◌∷◌, ◌++◌, tail}
 use Rattle.std.proofs.Math.Option.{Option, none, some}
-use Rattle.rules.specs.Outcome.{choose, given, Outcome, ok, refuse, ◌>>=◌, need}
-use Rattle.rules.specs.Numbers.{Name, same_name, same_bytes, record_bytes, bit, Mark, TV, AR, IM, LO, FN, OB, BV, PA, FH, LS, SU, AC, IY, FV}
+use Rattle.rules.specs.Outcome.{choose, given, Outcome, ok, ◌>>=◌}
+use Rattle.rules.specs.Numbers.{Name, same_name, same_bytes, record_bytes, bit, TV, AR, IM, LO, FN, OB, BV, PA, FH, LS, SU, AC, IY, FV}
 use Rattle.rules.specs.Records.{Span, span_numbers}
-use Rattle.rules.specs.Depths.{AnalysisResult, no_dependence}
-use Rattle.rules.specs.Tree.{Expr, Exprs, Binds, Params, Heads, Head, count_exprs, place_of}
+use Rattle.rules.specs.Depths.{no_dependence}
+use Rattle.rules.specs.Tree.{Expr, Exprs, Binds, Params, Heads, count_exprs, place_of}
 use Rattle.rules.specs.Tree.{identity, constant, variable, constants, array, plain, import, local, function, object}
 use Rattle.rules.specs.Tree.{no_exprs, ◌then◌, no_binds, bind, no_params, param, param_or, no_heads, fixed, computed}
 use Rattle.rules.specs.Locals.{newest}

@@ -1,7 +1,7 @@
 -- Output and diagnostics records, with their limits 9 and 10, and the shape of a frame that closes. Assumes nothing.
-use Rattle.std.specs.Prelude.{ℕ, ◌+◌, Bool, true, false, ◌||◌, List, [], ◌∷◌, ◌++◌, length, leb, ltb}
-use Rattle.rules.specs.Outcome.{Outcome, ok, refuse, ◌>>=◌, need}
-use Rattle.rules.specs.Numbers.{Name, bit, record_bytes, Mark, LS, CS, BL, SH, DG}
+use Rattle.std.specs.Prelude.{ℕ, Bool, true, false, ◌||◌, List, [], ◌∷◌, ◌++◌, length, leb, ltb}
+use Rattle.rules.specs.Outcome.{Outcome, ok, ◌>>=◌, need}
+use Rattle.rules.specs.Numbers.{Name, record_bytes, Mark, LS, CS, BL, SH, DG}
 use Rattle.rules.specs.Records.{Span, span_numbers}
 use Rattle.rules.specs.Frames.{LSlot, local_slot, capture_slot, Capture, ClosureFrame, new_frame, top, beneath}
 use Rattle.rules.specs.State.{Limits, AnalysisStack, with_frames, with_out, with_sink}
