@@ -31,7 +31,7 @@ fn put_numbers(out: &mut [u8], at: usize, ns: &[u32])
 }
 
 // Where the next record goes, or that this one had no room.
-#[derive(Drop)]
+#[derive(Clone, Copy)]
 pub enum Written {
     To(usize),
     NoRoom,

@@ -23,7 +23,7 @@ use value_depths::{AnalysisResult, NEVER};
 use value_local::{LocalDefinition, LocalId};
 
 // What a call answers: 0 or a refusal's number, its place, and where nothing was refused the rest.
-#[derive(Drop)]
+#[derive(Clone, Copy)]
 pub struct AnalysisReport {
     pub number: u32,
     pub place: usize,

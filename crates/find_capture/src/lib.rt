@@ -10,14 +10,14 @@ use table_captures::{CaptureSlot, LSlot, capture_at, owner_at, target_at};
 use value_local::LocalId;
 
 // A capture's slot in its frame, or how many others the frame has.
-#[derive(Drop)]
+#[derive(Clone, Copy)]
 pub enum FoundCapture {
     At(CaptureSlot),
     Nothing(u32),
 }
 
 // A frame's next capture: where the log goes on, and the source.
-#[derive(Drop)]
+#[derive(Clone, Copy)]
 pub enum Next {
     At(u32, LSlot),
     Nothing,

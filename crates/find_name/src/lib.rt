@@ -9,7 +9,7 @@ ghost use Rattle.find_name.specs.Answers.{NoneNamed, found};
 
 use value_local::LocalId;
 
-#[derive(Drop)]
+#[derive(Clone, Copy)]
 pub enum Found {
     At(LocalId),
     Nothing,

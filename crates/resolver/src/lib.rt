@@ -13,14 +13,14 @@ use table_frames::{Frame, frame_at, put_frame};
 use value_local::LocalId;
 
 // The slot of an id, where the frame defined it.
-#[derive(Drop)]
+#[derive(Clone, Copy)]
 pub enum Held {
     At(LocalSlot),
     Nothing,
 }
 
 // The slot and the log's length now, or a refusal.
-#[derive(Drop)]
+#[derive(Clone, Copy)]
 pub enum Resolved {
     To(LSlot, u32),
     Refused(u32),

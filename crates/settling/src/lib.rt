@@ -10,7 +10,7 @@ use table_locals::USED_AT_DEPTH;
 use value_local::LocalId;
 
 // Which of a frame's two loops: the first, before its body, settles what its locals depend on, the second, after it, where they are used.
-#[derive(Drop)]
+#[derive(Clone, Copy)]
 pub enum LoopKind {
     Analysis,
     Use,

@@ -11,7 +11,7 @@ use value_local::LocalId;
 
 // How many entries of each table and how many bytes of each buffer are in use, what was met of the present object, what the
 // present value depends on, whether an error was reported, and the rounds so far.
-#[derive(Drop)]
+#[derive(Clone, Copy)]
 pub struct AnalysisStack {
     pub locals: u32,
     pub frames: u32,
@@ -28,7 +28,7 @@ pub struct AnalysisStack {
 }
 
 // L, F, C and R.
-#[derive(Drop)]
+#[derive(Clone, Copy)]
 pub struct Limits {
     pub max_locals: u32,
     pub max_frames: u32,
@@ -37,28 +37,28 @@ pub struct Limits {
 }
 
 // The state after a step, or the refusal's number and place.
-#[derive(Drop)]
+#[derive(Clone, Copy)]
 pub enum Step {
     Ok(AnalysisStack),
     Refused(u32, usize),
 }
 
 // The state after a walk and the place after what was walked, or the refusal's number and place.
-#[derive(Drop)]
+#[derive(Clone, Copy)]
 pub enum Walked {
     To(AnalysisStack, usize),
     Refused(u32, usize),
 }
 
 // The same after a walk over a frame's specs, with how many of them are kept.
-#[derive(Drop)]
+#[derive(Clone, Copy)]
 pub enum Specs {
     To(AnalysisStack, usize, u32),
     Refused(u32, usize),
 }
 
 // Where an expression stands: the depth, and the ids of the innermost object's `this` and of the outermost's, if there is one.
-#[derive(Drop)]
+#[derive(Clone, Copy)]
 pub struct Place {
     pub depth: u32,
     pub in_object: bool,
@@ -67,7 +67,7 @@ pub struct Place {
 }
 
 // What a function is called, and the span that its warning bears if it isn't its own.
-#[derive(Drop)]
+#[derive(Clone, Copy)]
 pub enum Naming {
     Unnamed,
     AsBind(u32, u32),

@@ -62,7 +62,7 @@ fn emit_slot(
 }
 
 // What using a name leaves to do: to write the slot of its local, or nothing.
-#[derive(Drop)]
+#[derive(Clone, Copy)]
 pub enum Used {
     Slot(AnalysisStack, LocalId),
     Done(Step),

@@ -12,7 +12,7 @@ use state::{AnalysisStack, Naming, Step};
 use step_write::{Level, emit, report};
 
 // What an object's record tells beside its marks, and what the object around it had met.
-#[derive(Drop)]
+#[derive(Clone, Copy)]
 pub struct ObjectEnd {
     pub outermost: bool,
     pub self_used: bool,
@@ -24,7 +24,7 @@ pub struct ObjectEnd {
 }
 
 // A function's span, the output's length before it and before its body, how many parameters it keeps, and whether its first has a default.
-#[derive(Drop)]
+#[derive(Clone, Copy)]
 pub struct FunctionEnd {
     pub span: u32,
     pub start: usize,

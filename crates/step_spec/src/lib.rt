@@ -17,7 +17,7 @@ use value_depths::AnalysisResult;
 use value_local::LocalId;
 
 // A bind, or a parameter with its name and whether it has a default.
-#[derive(Drop)]
+#[derive(Clone, Copy)]
 pub enum Spec {
     Bind,
     Param(u32, u32),

@@ -9,7 +9,7 @@ ghost use Rattle.step_write.specs.Answers.{level_of, Emitted, Reported, BadPlace
 use bytes_write::{Written, put_record};
 use state::{AnalysisStack, Step};
 
-#[derive(Drop)]
+#[derive(Clone, Copy)]
 pub enum Level {
     Error,
     Warning,

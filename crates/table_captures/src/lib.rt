@@ -19,20 +19,20 @@ const SOURCE_KIND: usize = 2;
 
 const SOURCE_NUMBER: usize = 3;
 
-#[derive(Drop)]
+#[derive(Clone, Copy)]
 pub struct LocalSlot(pub u16);
 
-#[derive(Drop)]
+#[derive(Clone, Copy)]
 pub struct CaptureSlot(pub u16);
 
-#[derive(Drop)]
+#[derive(Clone, Copy)]
 pub enum LSlot {
     Local(LocalSlot),
     Capture(CaptureSlot),
 }
 
 // An entry of the log: the frame that captured, by its position, what it captured, and where the frame beneath has it.
-#[derive(Drop)]
+#[derive(Clone, Copy)]
 pub struct Capture {
     pub owner: u32,
     pub target: LocalId,

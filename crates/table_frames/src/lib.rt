@@ -17,7 +17,7 @@ const N_LOCALS: usize = 2;
 
 const CAPTURES_FROM: usize = 3;
 
-#[derive(Drop)]
+#[derive(Clone, Copy)]
 pub struct Frame {
     pub is_defining: bool,
     pub first_local: u32,

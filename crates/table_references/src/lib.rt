@@ -10,14 +10,14 @@ use table_locals::SCRATCH_REFERENCED;
 use value_local::LocalId;
 
 // A reference kept for the spec `user`, whose value referred to its sibling `used`.
-#[derive(Drop)]
+#[derive(Clone, Copy)]
 pub struct Reference {
     pub user: LocalId,
     pub used: LocalId,
 }
 
 // How many references there are now, or that they pass the limit.
-#[derive(Drop)]
+#[derive(Clone, Copy)]
 pub enum Kept {
     To(usize),
     NoRoom,

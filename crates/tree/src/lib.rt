@@ -21,7 +21,7 @@ use bytes_records::{
 use bytes_skip::after_head;
 
 // The place after, or the refusal's number and place.
-#[derive(Drop)]
+#[derive(Clone, Copy)]
 pub enum FirstWalk {
     Past(usize),
     Refused(u32, usize),

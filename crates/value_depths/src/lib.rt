@@ -10,7 +10,7 @@ ghost use Rattle.value_depths.specs.Meaning.{result_of};
 pub const NEVER: u32 = 4294967295;
 
 // The outermost object, the outermost local and the innermost local; `NEVER` and 0 where there is none.
-#[derive(Drop)]
+#[derive(Clone, Copy)]
 pub struct AnalysisResult {
     pub object_dependent_depth: u32,
     pub local_dependent_depth: u32,

@@ -10,11 +10,11 @@ ghost use Rattle.value_local.specs.Meaning.{local};
 use value_depths::AnalysisResult;
 
 // The position of a local's entry.
-#[derive(Drop)]
+#[derive(Clone, Copy)]
 pub struct LocalId(pub u32);
 
 // `has_name` and `name`: its name, where it has one. `is_record` and `place`: the record it stands for, or the external's position.
-#[derive(Drop)]
+#[derive(Clone, Copy)]
 pub struct LocalDefinition {
     pub defined_at_depth: u32,
     pub used_at_depth: u32,
