@@ -2,10 +2,12 @@
 
 #![tactic(auto)]
 
+ghost use Rattle.std.specs.Prelude.{◌≤◌, length, IfOk};
+
 use bytes_read::number_at;
 use call_root::AnalysisReport;
-use libc::{STDIN_FILENO, STDOUT_FILENO};
 use state::Limits;
+use std::io::{self, Read};
 use value_depths::AnalysisResult;
 
 // What became of one stored call.
@@ -16,12 +18,12 @@ enum Replay {
     Missing,
 }
 
-fn told(same: bool) -> Replay {
+fn told(rt: &impl Print, same: bool) -> io::Result<Replay> {
     if same {
-        return Replay::Same;
+        return Ok(Replay::Same);
     }
-    io::write_all(STDOUT_FILENO, b"\n");
-    Replay::Differs
+    rt.write_all(b"\n")?;
+    Ok(Replay::Differs)
 }
 
 fn bit(x: bool) -> u64 {
@@ -69,79 +71,95 @@ fn all_zero(numbers: &[u32]) -> bool {
 }
 
 // The first difference of a call begins its line.
-fn begin(call: u32, agreed: bool, what: &[u8]) {
+fn begin(rt: &impl Print, call: u32, agreed: bool, what: &[u8]) -> io::Result<()> {
     if agreed {
-        io::write_all(STDOUT_FILENO, b"differs: ");
-        io::print_decimal(STDOUT_FILENO, call as u64);
+        rt.write_all(b"differs: ")?;
+        rt.print(call)?;
     }
-    io::write_all(STDOUT_FILENO, what);
+    rt.write_all(what)
 }
 
 // Whether the call agreed so far and does here; what differs is printed.
-fn hold(call: u32, agreed: bool, what: &[u8], same: bool) -> bool {
+fn hold(rt: &impl Print, call: u32, agreed: bool, what: &[u8], same: bool) -> io::Result<bool> {
     if same {
-        return agreed;
+        return Ok(agreed);
     }
-    begin(call, agreed, what);
-    false
+    begin(rt, call, agreed, what)?;
+    Ok(false)
 }
 
 // The same for a number, with both; the stored one stands at an offset of the call's head.
-fn hold_number(call: u32, agreed: bool, what: &[u8], found: u64, head: &[u8], at: usize) -> bool {
+fn hold_number(
+    rt: &impl Print,
+    call: u32,
+    agreed: bool,
+    what: &[u8],
+    found: u64,
+    head: &[u8],
+    at: usize,
+) -> io::Result<bool> {
     let stored = number_at(head, at) as u64;
     if found == stored {
-        return agreed;
+        return Ok(agreed);
     }
-    begin(call, agreed, what);
-    io::print_decimal(STDOUT_FILENO, found);
-    io::write_all(STDOUT_FILENO, b" for ");
-    io::print_decimal(STDOUT_FILENO, stored);
-    false
+    begin(rt, call, agreed, what)?;
+    rt.print(found)?;
+    rt.write_all(b" for ")?;
+    rt.print(stored)?;
+    Ok(false)
 }
 
-fn same_depths(call: u32, agreed: bool, head: &[u8], d: AnalysisResult) -> bool {
+fn same_depths(
+    rt: &impl Print,
+    call: u32,
+    agreed: bool,
+    head: &[u8],
+    d: AnalysisResult,
+) -> io::Result<bool> {
     let object = d.object_dependent_depth as u64;
     let local = d.local_dependent_depth as u64;
     let most = d.local_dependent_depth_max as u64;
-    let mut a = hold_number(call, agreed, b" object depth ", object, head, 72);
-    a = hold_number(call, a, b" local depth ", local, head, 76);
-    hold_number(call, a, b" greatest local depth ", most, head, 80)
+    let mut a = hold_number(rt, call, agreed, b" object depth ", object, head, 72)?;
+    a = hold_number(rt, call, a, b" local depth ", local, head, 76)?;
+    hold_number(rt, call, a, b" greatest local depth ", most, head, 80)
 }
 
-fn same_report(call: u32, head: &[u8], r: AnalysisReport) -> bool {
+fn same_report(rt: &impl Print, call: u32, head: &[u8], r: AnalysisReport) -> io::Result<bool> {
     let out = r.out_length as u64;
     let diagnostics = r.diagnostics_length as u64;
-    let mut a = hold_number(call, true, b" number ", r.number as u64, head, 48);
-    a = hold_number(call, a, b" place ", r.place as u64, head, 52);
-    a = hold_number(call, a, b" output length ", out, head, 56);
-    a = hold_number(call, a, b" diagnostics length ", diagnostics, head, 60);
-    a = hold_number(call, a, b" errored ", bit(r.errored), head, 64);
-    a = hold_number(call, a, b" rounds ", r.rounds, head, 68);
+    let mut a = hold_number(rt, call, true, b" number ", r.number as u64, head, 48)?;
+    a = hold_number(rt, call, a, b" place ", r.place as u64, head, 52)?;
+    a = hold_number(rt, call, a, b" output length ", out, head, 56)?;
+    a = hold_number(rt, call, a, b" diagnostics length ", diagnostics, head, 60)?;
+    a = hold_number(rt, call, a, b" errored ", bit(r.errored), head, 64)?;
+    a = hold_number(rt, call, a, b" rounds ", r.rounds, head, 68)?;
     let depths = r.depths;
-    same_depths(call, a, head, depths)
+    same_depths(rt, call, a, head, depths)
 }
 
 // A buffer holds the stored bytes and after them zeros.
 fn same_buffer(
+    rt: &impl Print,
     call: u32,
     agreed: bool,
     what: &[u8],
     found: &[u8],
     stored: &[u8],
     length: u32,
-) -> bool {
+) -> io::Result<bool> {
     let a = hold(
+        rt,
         call,
         agreed,
         what,
         same_bytes(found, stored, length as usize),
-    );
+    )?;
     if zero_from(found, length as usize) {
-        return a;
+        return Ok(a);
     }
-    begin(call, a, what);
-    io::write_all(STDOUT_FILENO, b" behind the end not zero");
-    false
+    begin(rt, call, a, what)?;
+    rt.write_all(b" behind the end not zero")?;
+    Ok(false)
 }
 
 // L, F, C and R of a call.
@@ -156,6 +174,7 @@ fn limits_of(head: &[u8]) -> Limits {
 
 // All that a call leaves beside what is stored.
 fn same_call(
+    rt: &impl Print,
     call: u32,
     head: &[u8],
     stored_out: &[u8],
@@ -167,32 +186,35 @@ fn same_call(
     frames: &[u32],
     captures: &[u32],
     references: &[u32],
-) -> bool {
-    let mut a = same_report(call, head, r);
+) -> io::Result<bool> {
+    let mut a = same_report(rt, call, head, r)?;
     a = same_buffer(
+        rt,
         call,
         a,
         b" output bytes",
         out,
         stored_out,
         number_at(head, 56),
-    );
+    )?;
     a = same_buffer(
+        rt,
         call,
         a,
         b" diagnostics bytes",
         diagnostics,
         stored_diagnostics,
         number_at(head, 60),
-    );
-    a = hold(call, a, b" locals not zero", all_zero(locals));
-    a = hold(call, a, b" frames not zero", all_zero(frames));
-    a = hold(call, a, b" captures not zero", all_zero(captures));
-    hold(call, a, b" references not zero", all_zero(references))
+    )?;
+    a = hold(rt, call, a, b" locals not zero", all_zero(locals))?;
+    a = hold(rt, call, a, b" frames not zero", all_zero(frames))?;
+    a = hold(rt, call, a, b" captures not zero", all_zero(captures))?;
+    hold(rt, call, a, b" references not zero", all_zero(references))
 }
 
 // One call with just what is lent to it.
 fn replay_lent(
+    rt: &impl Print,
     call: u32,
     head: &[u8],
     tree: &[u8],
@@ -204,7 +226,7 @@ fn replay_lent(
     frames: &mut [u32],
     captures: &mut [u32],
     references: &mut [u32],
-) -> bool {
+) -> io::Result<bool> {
     let limits = limits_of(head);
     let r = analyze::analyze_root(
         tree,
@@ -217,6 +239,7 @@ fn replay_lent(
         limits,
     );
     same_call(
+        rt,
         call,
         head,
         stored_out,
@@ -233,12 +256,13 @@ fn replay_lent(
 
 // One call whose parts were read. What is lent is full of rubbish before it.
 fn replay_read(
+    rt: &impl Print,
     call: u32,
     head: &[u8],
     tree: &[u8],
     stored_out: &[u8],
     stored_diagnostics: &[u8],
-) -> Replay {
+) -> io::Result<Replay> {
     let l = number_at(head, 20) as usize;
     let f = number_at(head, 24) as usize;
     let c = number_at(head, 28) as usize;
@@ -247,7 +271,7 @@ fn replay_read(
     let d = number_at(head, 40) as usize;
     let t = number_at(head, 44) as usize;
     if 4096 < l || 4096 < f || 4096 < c || 4096 < r || 8192 < o || 8192 < d || tree.len() < t {
-        return Replay::Missing;
+        return Ok(Replay::Missing);
     }
     let mut locals = [2779096485u32; 4096];
     let mut frames = [2779096485u32; 4096];
@@ -256,6 +280,7 @@ fn replay_read(
     let mut out = [165u8; 8192];
     let mut diagnostics = [165u8; 8192];
     let same = replay_lent(
+        rt,
         call,
         head,
         &tree[..t],
@@ -267,81 +292,100 @@ fn replay_read(
         &mut frames[..f],
         &mut captures[..c],
         &mut references[..r],
-    );
-    told(same)
+    )?;
+    told(rt, same)
+}
+
+// Reads until the bytes are full or the input ends; answers how many bytes were read.
+fn read_full(input: &mut impl Read, bytes: &mut [u8]) -> io::Result<usize>
+    ensures { IfOk result (λ n. n ≤ length bytes.new) }
+{
+    let mut done = 0;
+    while done < bytes.len() {
+        let n = input.read(&mut bytes[done..])?;
+        if n == 0 {
+            break;
+        }
+        done += n;
+    }
+    Ok(done)
 }
 
 // Whether so many bytes could be read.
-fn read_some(bytes: &mut [u8], size: usize) -> bool {
+fn read_some(input: &mut impl Read, bytes: &mut [u8], size: usize) -> io::Result<bool> {
     if bytes.len() < size {
-        return false;
+        return Ok(false);
     }
-    io::read_full(STDIN_FILENO, &mut bytes[..size]) == size
+    Ok(read_full(input, &mut bytes[..size])? == size)
 }
 
 // The next stored call: its head, then the tree, the output and the diagnostics.
-fn replay_one(call: u32) -> Replay {
+fn replay_one(rt: &impl Print, input: &mut impl Read, call: u32) -> io::Result<Replay> {
     let mut head = [0u8; 84];
     let mut tree = [0u8; 8192];
     let mut stored_out = [0u8; 8192];
     let mut stored_diagnostics = [0u8; 8192];
-    if !read_some(&mut head, 84) {
-        return Replay::Missing;
+    if !read_some(input, &mut head, 84)? {
+        return Ok(Replay::Missing);
     }
-    if !read_some(&mut tree, number_at(&head, 44) as usize) {
-        return Replay::Missing;
+    if !read_some(input, &mut tree, number_at(&head, 44) as usize)? {
+        return Ok(Replay::Missing);
     }
-    if !read_some(&mut stored_out, number_at(&head, 56) as usize) {
-        return Replay::Missing;
+    if !read_some(input, &mut stored_out, number_at(&head, 56) as usize)? {
+        return Ok(Replay::Missing);
     }
-    if !read_some(&mut stored_diagnostics, number_at(&head, 60) as usize) {
-        return Replay::Missing;
+    if !read_some(
+        input,
+        &mut stored_diagnostics,
+        number_at(&head, 60) as usize,
+    )? {
+        return Ok(Replay::Missing);
     }
-    replay_read(call, &head, &tree, &stored_out, &stored_diagnostics)
+    replay_read(rt, call, &head, &tree, &stored_out, &stored_diagnostics)
 }
 
-fn say(text: &[u8], n: u64) {
-    io::write_all(STDOUT_FILENO, text);
-    io::print_decimal(STDOUT_FILENO, n);
-    io::write_all(STDOUT_FILENO, b"\n");
+fn say(rt: &impl Print, text: &[u8], n: u64) -> io::Result<()> {
+    rt.write_all(text)?;
+    rt.println(n)
 }
 
 // How many of the next calls are answered as stored; the others are printed. After a missing one nothing can be read.
-fn replay_all(count: u32) -> u64 {
+fn replay_all(rt: &impl Print, input: &mut impl Read, count: u32) -> io::Result<u64> {
     let mut same: u64 = 0;
     for i in 0..count {
-        let r = replay_one(i);
+        let r = replay_one(rt, input, i)?;
         match r {
             Replay::Same => {
                 same = std::num::wrapping_add_u64(same, 1);
             }
             Replay::Differs => {}
             Replay::Missing => {
-                say(b"missing or too long: ", i as u64);
-                return same;
+                say(rt, b"missing or too long: ", i as u64)?;
+                return Ok(same);
             }
         }
     }
-    same
+    Ok(same)
 }
 
 // Whether the file has nothing more.
-fn at_end() -> bool {
+fn at_end(input: &mut impl Read) -> io::Result<bool> {
     let mut more = [0u8; 1];
-    io::read_full(STDIN_FILENO, &mut more) == 0
+    Ok(read_full(input, &mut more)? == 0)
 }
 
-fn main() {
+fn main(rt: HostRuntime) -> io::Result<()> {
+    let mut input = rt.reader();
     let mut head = [0u8; 8];
-    io::read_full(STDIN_FILENO, &mut head);
+    read_full(&mut input, &mut head)?;
     if number_at(&head, 0) != 1447842644 {
-        io::write_all(STDOUT_FILENO, b"not a file of stored calls\n");
+        rt.write_all(b"not a file of stored calls\n")?;
     }
     let count = number_at(&head, 4);
-    say(b"calls: ", count as u64);
-    let same = replay_all(count);
-    if !at_end() {
-        io::write_all(STDOUT_FILENO, b"more behind the last call\n");
+    say(&rt, b"calls: ", count as u64)?;
+    let same = replay_all(&rt, &mut input, count)?;
+    if !at_end(&mut input)? {
+        rt.write_all(b"more behind the last call\n")?;
     }
-    say(b"answered as stored: ", same);
+    say(&rt, b"answered as stored: ", same)
 }

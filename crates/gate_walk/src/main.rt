@@ -2,8 +2,10 @@
 
 #![tactic(auto)]
 
+ghost use Rattle.std.specs.Prelude.{◌≤◌, length, IfOk};
+
 use bytes_read::number_at;
-use libc::{STDIN_FILENO, STDOUT_FILENO};
+use std::io::{self, Read};
 use tree::FirstWalk;
 
 // What became of one stored byte string.
@@ -30,54 +32,70 @@ fn judge(bytes: &[u8], size: usize, number: u32, place: u32) -> Replay {
     }
 }
 
-// Whether so many bytes could be read.
-fn read_some(bytes: &mut [u8], size: usize) -> bool {
-    if bytes.len() < size {
-        return false;
+// Reads until the bytes are full or the input ends; answers how many bytes were read.
+fn read_full(input: &mut impl Read, bytes: &mut [u8]) -> io::Result<usize>
+    ensures { IfOk result (λ n. n ≤ length bytes.new) }
+{
+    let mut done = 0;
+    while done < bytes.len() {
+        let n = input.read(&mut bytes[done..])?;
+        if n == 0 {
+            break;
+        }
+        done += n;
     }
-    io::read_full(STDIN_FILENO, &mut bytes[..size]) == size
+    Ok(done)
+}
+
+// Whether so many bytes could be read.
+fn read_some(input: &mut impl Read, bytes: &mut [u8], size: usize) -> io::Result<bool> {
+    if bytes.len() < size {
+        return Ok(false);
+    }
+    Ok(read_full(input, &mut bytes[..size])? == size)
 }
 
 // The next stored byte string: its length, number and place stand at fixed offsets of its head.
-fn replay_one() -> Replay {
+fn replay_one(input: &mut impl Read) -> io::Result<Replay> {
     let mut head = [0u8; 84];
-    if !read_some(&mut head, 84) {
-        return Replay::Missing;
+    if !read_some(input, &mut head, 84)? {
+        return Ok(Replay::Missing);
     }
     let size = number_at(&head, 44) as usize;
     let mut bytes = [0u8; 4096];
-    if !read_some(&mut bytes, size) {
-        return Replay::Missing;
+    if !read_some(input, &mut bytes, size)? {
+        return Ok(Replay::Missing);
     }
-    judge(&bytes, size, number_at(&head, 48), number_at(&head, 52))
+    Ok(judge(&bytes, size, number_at(&head, 48), number_at(&head, 52)))
 }
 
-fn say(text: &[u8], n: u64) {
-    io::write_all(STDOUT_FILENO, text);
-    io::print_decimal(STDOUT_FILENO, n);
-    io::write_all(STDOUT_FILENO, b"\n");
+fn say(rt: &impl Print, text: &[u8], n: u64) -> io::Result<()> {
+    rt.write_all(text)?;
+    rt.println(n)
 }
 
 // How many of the next strings are answered as stored; the others are printed.
-fn replay_all(count: u32) -> u64 {
+fn replay_all(rt: &impl Print, input: &mut impl Read, count: u32) -> io::Result<u64> {
     let mut same: u64 = 0;
     for i in 0..count {
-        let r = replay_one();
+        let r = replay_one(input)?;
         match r {
             Replay::Same => {
                 same = std::num::wrapping_add_u64(same, 1);
             }
-            Replay::Differs => say(b"differs: ", i as u64),
-            Replay::Missing => say(b"missing: ", i as u64),
+            Replay::Differs => say(rt, b"differs: ", i as u64)?,
+            Replay::Missing => say(rt, b"missing: ", i as u64)?,
         }
     }
-    same
+    Ok(same)
 }
 
-fn main() {
+fn main(rt: HostRuntime) -> io::Result<()> {
+    let mut input = rt.reader();
     let mut head = [0u8; 8];
-    io::read_full(STDIN_FILENO, &mut head);
+    read_full(&mut input, &mut head)?;
     let count = number_at(&head, 4);
-    say(b"byte strings: ", count as u64);
-    say(b"answered as stored: ", replay_all(count));
+    say(&rt, b"byte strings: ", count as u64)?;
+    let same = replay_all(&rt, &mut input, count)?;
+    say(&rt, b"answered as stored: ", same)
 }

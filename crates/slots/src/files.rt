@@ -1,7 +1,11 @@
 // Files read whole.
-use check::same;
+ghost use Rattle.std.specs.Prelude.{◌≤◌, length, IfOk};
+
 use slots_text::parts::behind;
 use slots_text::text::{row_of, say, two_digits};
+use std::io::{self, ErrorKind, Read};
+use std::rt::Files;
+use std::{fs, str};
 
 // Why a file could not be opened or read, by the system's number for it.
 const REASONS: [u8; 130] = *b"\
@@ -17,53 +21,76 @@ const REASONS: [u8; 130] = *b"\
 pub enum Reading {
     Whole(usize),
     TooLong,
-    Unopened(i32),
-    Broken(i32),
+    Unopened(ErrorKind),
+    Broken(ErrorKind),
+}
+
+// Reads until the bytes are full or the file ends; answers how many bytes were read.
+fn read_full(file: &mut impl Read, bytes: &mut [u8]) -> io::Result<usize>
+    ensures { IfOk result (λ n. n ≤ length bytes.new) }
+{
+    let mut done = 0;
+    while done < bytes.len() {
+        let n = file.read(&mut bytes[done..])?;
+        if n == 0 {
+            break;
+        }
+        done += n;
+    }
+    Ok(done)
 }
 
 // All that is left of an open file.
-fn read_rest(fd: i32, bytes: &mut [u8]) -> Reading {
-    let n = io::read_full(fd, bytes);
-    let mut more = [0u8; 1];
-    let got = libc::read(fd, &mut more);
-    if got < 0 {
-        return Reading::Broken(os::errno());
+fn read_rest(file: &mut impl Read, bytes: &mut [u8]) -> Reading {
+    match read_full(file, bytes) {
+        Ok(n) => read_end(file, n),
+        Err(error) => Reading::Broken(error.kind()),
     }
-    if 0 < got {
-        return Reading::TooLong;
-    }
-    Reading::Whole(n)
 }
 
-// The file of this name; `-` is standard input.
-pub fn read_file(name: &[u8], bytes: &mut [u8]) -> Reading {
-    if same(name, b"-") {
-        return read_rest(libc::STDIN_FILENO, bytes);
+// After so many bytes the file ends, or else it is too long.
+fn read_end(file: &mut impl Read, n: usize) -> Reading {
+    let mut more = [0u8; 1];
+    match file.read(&mut more) {
+        Ok(0) => Reading::Whole(n),
+        Ok(_) => Reading::TooLong,
+        Err(error) => Reading::Broken(error.kind()),
     }
-    let fd = os::open_read(name);
-    if fd < 0 {
-        return Reading::Unopened(os::errno());
+}
+
+// The file of this name; `-` is standard input. A name that isn't UTF-8 is no path here.
+pub fn read_file(rt: &(impl Files + Input), name: &[u8], bytes: &mut [u8]) -> Reading {
+    if name == b"-".as_slice() {
+        let mut input = rt.reader();
+        return read_rest(&mut input, bytes);
     }
-    let r = read_rest(fd, bytes);
-    libc::close(fd);
-    r
+    let Ok(path) = str::from_utf8(name) else {
+        return Reading::Unopened(ErrorKind::InvalidInput);
+    };
+    match fs::open(rt, path) {
+        Ok(file) => {
+            let mut opened = file;
+            read_rest(&mut opened, bytes)
+        }
+        Err(error) => Reading::Unopened(error.kind()),
+    }
 }
 
 // The system's number of an error that has a line above, and 0 for any other.
-fn known(error: i32) -> u32 {
+fn known(error: ErrorKind) -> u32 {
     match error {
-        libc::ENOENT => 2,
-        libc::EACCES => 13,
-        libc::EISDIR => 21,
-        libc::EINVAL => 22,
-        libc::ENAMETOOLONG => 36,
+        ErrorKind::NotFound => 2,
+        ErrorKind::PermissionDenied => 13,
+        ErrorKind::IsADirectory => 21,
+        ErrorKind::InvalidInput => 22,
+        ErrorKind::InvalidFilename => 36,
         _ => 0,
     }
 }
 
 // The line on a file that could not be opened or read.
-pub fn show_unread(what: &[u8], error: i32) {
-    say(what);
-    say(behind(row_of(&REASONS, two_digits(known(error))), 2));
-    say(b"\n");
+pub fn show_unread(rt: &impl Print, what: &[u8], error: ErrorKind) -> io::Result<()> {
+    say(rt, what)?;
+    say(rt, behind(row_of(&REASONS, two_digits(known(error))), 2))?;
+    say(rt, b"\n")
 }

@@ -1,5 +1,6 @@
 // The help, and the room that it tells of.
 use slots_text::text::fill;
+use std::io;
 
 // The longest tree and the longest output, in bytes, and the room for diagnostics.
 pub const TREE: usize = 131072;
@@ -35,9 +36,10 @@ Room: a tree of # bytes, an output of # bytes, diagnostics of # bytes.\n\
 Limits: # each of live locals (L), open frames (F), captures in them (C) and\n\
 references kept in them (R). The library for C takes what it is lent.\n";
 
-pub fn show_help() {
+pub fn show_help(rt: &impl Print) -> io::Result<()> {
     fill(
+        rt,
         &HELP,
         &[TREE as u64, OUT as u64, DIAGNOSTICS as u64, LIMIT as u64],
-    );
+    )
 }

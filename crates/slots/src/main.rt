@@ -8,7 +8,6 @@ mod refusals;
 mod report;
 
 use call_root::AnalysisReport;
-use check::same;
 use files::{Reading, read_file, show_unread};
 use help::{DIAGNOSTICS, LIMIT, OUT, TABLE, TREE, show_help};
 use refusals::show_refusal;
@@ -18,6 +17,9 @@ use slots_text::layout::show_records;
 use slots_text::parts::front;
 use slots_text::text::{fill, say};
 use state::Limits;
+use std::env::{Env, FillError};
+use std::io;
+use std::rt::Files;
 
 // What became of one file.
 #[derive(Drop)]
@@ -79,64 +81,77 @@ fn analysed(tree: &[u8], out: &mut [u8], diagnostics: &mut [u8]) -> AnalysisRepo
     )
 }
 
-fn on_tree(tree: &[u8], quiet: bool) -> Outcome {
+fn on_tree(rt: &impl Print, tree: &[u8], quiet: bool) -> io::Result<Outcome> {
     let mut out = [0u8; OUT];
     let mut diagnostics = [0u8; DIAGNOSTICS];
     let r = analysed(tree, &mut out, &mut diagnostics);
     if r.number != 0 {
-        show_refusal(r.number, r.place);
-        return Outcome::Refused;
+        show_refusal(rt, r.number, r.place)?;
+        return Ok(Outcome::Refused);
     }
-    let records = show_records(front(&out, r.out_length), !quiet);
-    let tally = show_diagnostics(front(&diagnostics, r.diagnostics_length));
-    show_report(r, tree.len(), records, tally);
+    let records = show_records(rt, front(&out, r.out_length), !quiet)?;
+    let tally = show_diagnostics(rt, front(&diagnostics, r.diagnostics_length))?;
+    show_report(rt, r, tree.len(), records, tally)?;
     if r.errored {
-        Outcome::WithErrors
+        Ok(Outcome::WithErrors)
     } else {
-        Outcome::Clean
+        Ok(Outcome::Clean)
     }
 }
 
-fn on_file(name: &[u8], quiet: bool) -> Outcome {
-    say(b"== ");
-    say(name);
-    say(b"\n");
+fn on_file(rt: &(impl Files + Input + Print), name: &[u8], quiet: bool) -> io::Result<Outcome> {
+    say(rt, b"== ")?;
+    say(rt, name)?;
+    say(rt, b"\n")?;
     let mut bytes = [0u8; TREE];
-    let r = read_file(name, &mut bytes);
+    let r = read_file(rt, name, &mut bytes);
     match r {
-        Reading::Whole(n) => return on_tree(front(&bytes, n), quiet),
-        Reading::TooLong => fill(b"not read: longer than # bytes\n", &[TREE as u64]),
-        Reading::Unopened(error) => show_unread(b"not opened: ", error),
-        Reading::Broken(error) => show_unread(b"not read: ", error),
+        Reading::Whole(n) => return on_tree(rt, front(&bytes, n), quiet),
+        Reading::TooLong => fill(rt, b"not read: longer than # bytes\n", &[TREE as u64])?,
+        Reading::Unopened(error) => show_unread(rt, b"not opened: ", error)?,
+        Reading::Broken(error) => show_unread(rt, b"not read: ", error)?,
     }
-    Outcome::Unread
+    Ok(Outcome::Unread)
 }
 
 // An option, or the name of a file.
-fn on_word(word: &[u8], run: Run) -> Run {
-    if same(word, b"-h") || same(word, b"--help") {
-        show_help();
-        return run;
+fn on_word(rt: &(impl Files + Input + Print), word: &[u8], run: Run) -> io::Result<Run> {
+    if word == b"-h".as_slice() || word == b"--help".as_slice() {
+        show_help(rt)?;
+        return Ok(run);
     }
-    if same(word, b"-q") {
+    if word == b"-q".as_slice() {
         let mut quiet = run;
         quiet.quiet = true;
-        return quiet;
+        return Ok(quiet);
     }
-    run.counted(on_file(word, run.quiet))
+    let outcome = on_file(rt, word, run.quiet)?;
+    Ok(run.counted(outcome))
 }
 
-fn on_argument(i: usize, run: Run) -> Run {
-    let mut word = io::buffer();
-    let n = os::arg(i, &mut word);
-    if os::errno() != 0 {
-        fill(b"not read: argument # is too long\n", &[i as u64]);
-        return run.counted(Outcome::Unread);
+fn on_argument(rt: &(impl Env + Files + Input + Print), i: usize, run: Run) -> io::Result<Run> {
+    let mut word = [0u8; 4096];
+    match rt.arg(i, &mut word) {
+        Ok(n) => on_word(rt, &word[..n], run),
+        Err(_) => {
+            fill(rt, b"not read: argument # is too long\n", &[i as u64])?;
+            Ok(run.counted(Outcome::Unread))
+        }
     }
-    on_word(&word[..n], run)
 }
 
-fn on_arguments(count: usize) -> Run {
+// How many arguments there are, of which the first is the program's name.
+fn arg_count(rt: &impl Env) -> usize {
+    let mut word = [0u8; 1];
+    for i in 0..usize::MAX {
+        if let Err(FillError::NotPresent) = rt.arg(i, &mut word) {
+            return i;
+        }
+    }
+    usize::MAX
+}
+
+fn on_arguments(rt: &(impl Env + Files + Input + Print), count: usize) -> io::Result<Run> {
     let mut run = Run {
         quiet: false,
         clean: 0,
@@ -145,27 +160,27 @@ fn on_arguments(count: usize) -> Run {
         unread: 0,
     };
     for i in 1..count {
-        run = on_argument(i, run);
+        run = on_argument(rt, i, run)?;
     }
-    run
+    Ok(run)
 }
 
 // The last line, where a file was named.
-fn show_totals(run: Run) {
+fn show_totals(rt: &impl Print, run: Run) -> io::Result<()> {
     if run.clean == 0 && run.with_errors == 0 && run.refused == 0 && run.unread == 0 {
-        return;
+        return Ok(());
     }
     fill(
+        rt,
         b"files: clean #, with errors #, refused #, not read #\n",
         &[run.clean, run.with_errors, run.refused, run.unread],
-    );
+    )
 }
 
-fn main() {
-    let count = os::arg_count();
+fn main(rt: HostRuntime) -> io::Result<()> {
+    let count = arg_count(&rt);
     if count < 2 {
-        show_help();
-        return;
+        return show_help(&rt);
     }
-    show_totals(on_arguments(count));
+    show_totals(&rt, on_arguments(&rt, count)?)
 }

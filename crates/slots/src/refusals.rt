@@ -2,6 +2,7 @@
 use crate::help::{DIAGNOSTICS, LIMIT, OUT};
 use slots_text::parts::behind;
 use slots_text::text::{fill, row_of, two_digits};
+use std::io;
 
 // What a refusal's number means; `#` is the limit or the room that was met.
 const MEANINGS: [u8; 667] = *b"\
@@ -31,11 +32,12 @@ fn met(number: u32) -> u64 {
 }
 
 // The line of a refusal.
-pub fn show_refusal(number: u32, place: usize) {
-    fill(b"refused #, ", &[number as u64]);
+pub fn show_refusal(rt: &impl Print, number: u32, place: usize) -> io::Result<()> {
+    fill(rt, b"refused #, ", &[number as u64])?;
     fill(
+        rt,
         behind(row_of(&MEANINGS, two_digits(number)), 2),
         &[met(number)],
-    );
-    fill(b": at offset # of the tree\n", &[place as u64]);
+    )?;
+    fill(rt, b": at offset # of the tree\n", &[place as u64])
 }

@@ -2,6 +2,7 @@
 use crate::parts::behind;
 use crate::text::{fill, row_of, say, two_digits};
 use bytes_read::number_at;
+use std::io;
 
 // The bytes of a diagnostic.
 const SIZE: usize = 18;
@@ -27,26 +28,26 @@ pub struct Tally {
 }
 
 // The diagnostic that these bytes begin with; 3 to 6 and 10 are about no name.
-fn show(diagnostic: &[u8]) {
+fn show(rt: &impl Print, diagnostic: &[u8]) -> io::Result<()> {
     let code = number_at(diagnostic, 6);
     let name = number_at(diagnostic, 10) as u64;
     let span = number_at(diagnostic, 14) as u64;
     let line = behind(row_of(&LINES, two_digits(code)), 2);
     if code < 3 || (6 < code && code < 10) {
-        fill(line, &[name, span]);
+        fill(rt, line, &[name, span])?;
     } else {
-        fill(line, &[span]);
+        fill(rt, line, &[span])?;
     }
-    say(b"\n");
+    say(rt, b"\n")
 }
 
 // A line for each diagnostic, and how many there are of each level.
-pub fn show_diagnostics(bytes: &[u8]) -> Tally {
+pub fn show_diagnostics(rt: &impl Print, bytes: &[u8]) -> io::Result<Tally> {
     let mut errors: u64 = 0;
     let mut warnings: u64 = 0;
     let mut at = 0;
     while SIZE <= bytes.len() - at {
-        show(&bytes[at..]);
+        show(rt, &bytes[at..])?;
         if number_at(bytes, at + 2) == 0 {
             errors = std::num::wrapping_add_u64(errors, 1);
         } else {
@@ -54,8 +55,8 @@ pub fn show_diagnostics(bytes: &[u8]) -> Tally {
         }
         at += SIZE;
     }
-    Tally {
+    Ok(Tally {
         errors: errors,
         warnings: warnings,
-    }
+    })
 }

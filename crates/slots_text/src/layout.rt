@@ -2,6 +2,7 @@
 use crate::parts::{behind, enter, entry};
 use crate::records::{describe, owned, size};
 use crate::text::{indent, say, say_offset};
+use std::io;
 
 // The most records that the longest output of `slots` can have: each has two bytes at least.
 const MOST: usize = 65536;
@@ -72,20 +73,28 @@ fn arrange(
 }
 
 // A line for each record: its offset, and its words below those of its owner.
-fn show_lines(out: &[u8], starts: &[u32], depths: &[u32], lines: &[u32], records: usize) {
+fn show_lines(
+    rt: &impl Print,
+    out: &[u8],
+    starts: &[u32],
+    depths: &[u32],
+    lines: &[u32],
+    records: usize,
+) -> io::Result<()> {
     for line in 0..records {
         let i = entry(lines, line);
         let at = entry(starts, i);
-        say_offset(at);
-        say(b"  ");
-        indent(entry(depths, i));
-        describe(behind(out, at));
-        say(b"\n");
+        say_offset(rt, at)?;
+        say(rt, b"  ")?;
+        indent(rt, entry(depths, i))?;
+        describe(rt, behind(out, at))?;
+        say(rt, b"\n")?;
     }
+    Ok(())
 }
 
 // All records of an output, if they are asked for; answers how many there are.
-pub fn show_records(out: &[u8], asked: bool) -> usize {
+pub fn show_records(rt: &impl Print, out: &[u8], asked: bool) -> io::Result<usize> {
     let mut starts = [0u32; MOST];
     let mut firsts = [0u32; MOST];
     let mut depths = [0u32; MOST];
@@ -93,7 +102,7 @@ pub fn show_records(out: &[u8], asked: bool) -> usize {
     let records = index(out, &mut starts, &mut firsts);
     if asked {
         arrange(out, &starts, &firsts, &mut depths, &mut lines, records);
-        show_lines(out, &starts, &depths, &lines, records);
+        show_lines(rt, out, &starts, &depths, &lines, records)?;
     }
-    records
+    Ok(records)
 }

@@ -7,6 +7,7 @@ use bytes_read::{mark_at, number_at};
 use bytes_records::{
     AP, AR, AS, AT, BI, BV, ER, FH, FN, IF, IM, IX, LO, NA, OB, OX, PA, PT, SC, UN,
 };
+use std::io;
 
 // The marks that only an output has, as numbers: the first letter times 256, and the second.
 const BL: u32 = 0x424c;
@@ -135,50 +136,52 @@ fn numbers_of(record: &[u8]) -> [u64; 7] {
 }
 
 // The record that these bytes begin with, in words.
-pub fn describe(record: &[u8]) {
+pub fn describe(rt: &impl Print, record: &[u8]) -> io::Result<()> {
     let mark = mark_at(record, 0);
-    fill(row_of(&RECORDS, mark), &numbers_of(record));
+    fill(rt, row_of(&RECORDS, mark), &numbers_of(record))?;
     match mark {
-        BL => say_kind(number_at(record, 2)),
-        AC => say_constants(record, number_at(record, 2)),
-        SH => say_captures(record, number_at(record, 6)),
-        _ => {}
+        BL => say_kind(rt, number_at(record, 2)),
+        AC => say_constants(rt, record, number_at(record, 2)),
+        SH => say_captures(rt, record, number_at(record, 6)),
+        _ => Ok(()),
     }
 }
 
-fn say_kind(kind: u32) {
-    say(behind(row_of(&BAD_PLACES, two_digits(kind)), 2));
+fn say_kind(rt: &impl Print, kind: u32) -> io::Result<()> {
+    say(rt, behind(row_of(&BAD_PLACES, two_digits(kind)), 2))
 }
 
-fn say_constants(record: &[u8], items: u32) {
+fn say_constants(rt: &impl Print, record: &[u8], items: u32) -> io::Result<()> {
     let mut next: usize = 6;
     for _item in 0..items {
-        fill(b" #", &[number_at(record, next) as u64]);
+        fill(rt, b" #", &[number_at(record, next) as u64])?;
         next = std::num::wrapping_add_usize(next, 4);
     }
+    Ok(())
 }
 
 // For each of a closure's captures, where it is taken from in the closure around it.
-fn say_captures(record: &[u8], captures: u32) {
+fn say_captures(rt: &impl Print, record: &[u8], captures: u32) -> io::Result<()> {
     if captures == 0 {
-        say(b" none");
+        say(rt, b" none")?;
     }
     let mut next: usize = 10;
     for i in 0..captures {
         if i != 0 {
-            say(b",");
+            say(rt, b",")?;
         }
-        say_source(behind(record, next));
+        say_source(rt, behind(record, next))?;
         next = std::num::wrapping_add_usize(next, 8);
     }
+    Ok(())
 }
 
 // A capture's source: 0 for a local and 1 for a capture, and its number.
-fn say_source(pair: &[u8]) {
+fn say_source(rt: &impl Print, pair: &[u8]) -> io::Result<()> {
     let number = number_at(pair, 4) as u64;
     if number_at(pair, 0) == 0 {
-        fill(b" local #", &[number]);
+        fill(rt, b" local #", &[number])
     } else {
-        fill(b" capture #", &[number]);
+        fill(rt, b" capture #", &[number])
     }
 }
