@@ -9,7 +9,7 @@ use lib.ListN.{length, get_elem?, get_or, take, drop, length-drop, length-append
 use lib.Dec.{eqb, leb, ltb, T, leb→le, ltb→lt, eqb→eq}
 use lib.Seq.{get_or-drop}
 use borrow.Author.Tests.{ltb-true, leb-false, lt-ltb}
-use Rattle.rules.specs.Outcome.{◌>>=◌, choose}
+use Rattle.rules.specs.Outcome.{choose}
 use Rattle.rules.specs.Tree.{Binding, external}
 use Rattle.rules.specs.Frames.{LSlot, local_slot, capture_slot, Capture, ClosureFrame, new_frame, no_frame, top, defining, holds, slot_in, capture_of, with_capture, Resolved, resolve_at}
 use Rattle.rules.specs.Writing.{slot_number, pair_of, pairs_of}

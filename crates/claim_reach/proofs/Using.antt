@@ -21,7 +21,6 @@ use Rattle.claim_reach.specs.Reach.{View, Trail, source, slot_read}
 use Rattle.claim_reach.proofs.Resolving.{Grown, seen, seen_later, resolve_right}
 use Rattle.claim_reach.proofs.Decoding.{OutFits, AllFit, record_one, fits_fields}
 use Rattle.claim_reach.proofs.Promise.{Key, labels, Ready, Back, Kept, label_count}
-use Rattle.rules.specs.Outcome
 
 -- what a state's walk starts from is its frames and its output
 pub kept_from : {ks : List Key} {walk : Back} {ms : List Meant} {b : AnalysisStack} (a a' : AnalysisStack) → a'.frames ≡ a.frames → a'.sink.out ≡ a.sink.out → Kept ks walk ms a' b → Kept ks walk ms a b

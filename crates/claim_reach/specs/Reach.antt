@@ -3,7 +3,7 @@
 use Rattle.std.specs.Prelude.{ℕ, zero, suc, Bool, true, false, List, [], ◌∷◌, ◌++◌, reverse, ◌≡◌, length, get_or, drop, eqb}
 use Rattle.std.proofs.Math.Option.{Option, none, some}
 use Rattle.std.proofs.Math.ListN.{get_elem?}
-use Rattle.rules.specs.Outcome.{choose, given, ok}
+use Rattle.rules.specs.Outcome.{choose, ok}
 use Rattle.rules.specs.Numbers.{Name, Record, code}
 use Rattle.rules.specs.Numbers.{Mark, TV, AR, LO, IM, FN, OB, BV, PA, FH, LS, CS, SU, BL, AC, IY, FV, SH}
 use Rattle.rules.specs.Tree.{Tree, Expr, Exprs, Binds, Params, Heads, identity, constant, variable, constants, array, plain, import, local, function, object}

@@ -5,7 +5,7 @@ use Rattle.rules.specs.Outcome.{Outcome, ok, refuse, choose}
 use Rattle.rules.specs.Tree.{Tree, Binding, at_record, external}
 use Rattle.rules.specs.FirstWalk.{tree_at}
 use Rattle.rules.specs.State.{AnalysisStack}
-use Rattle.rules.specs.Call.{Lent, run}
+use Rattle.rules.specs.Call.{run}
 use Rattle.rules.specs.Cases.{Case}
 use Rattle.claim_scope.specs.Scope.{Meant}
 use Rattle.claim_reach.specs.Lexical.{lexical_read}

@@ -1,6 +1,5 @@
 -- What of lexical scoping no slot of the output reads: each super, and what stands in a function that only gives its argument. Assumes nothing.
 use Rattle.std.specs.Prelude.{ℕ, zero, suc, List, [], ◌∷◌, ◌++◌}
-use Rattle.std.proofs.Math.Option.{none}
 use Rattle.rules.specs.Outcome.{choose}
 use Rattle.rules.specs.Tree.{Tree, Expr, Exprs, Binds, Params, Heads, identity, constant, variable, constants, array, plain, import, local, function, object}
 use Rattle.rules.specs.Tree.{◌then◌, no_exprs, no_binds, no_params, no_heads, bind, param, param_or, fixed, computed}

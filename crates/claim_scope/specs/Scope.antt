@@ -1,9 +1,9 @@
 -- Lexical scoping, from the nesting and the order of the records alone: what each VA and ID of a tree means. No frame, depth or slot enters. Assumes nothing.
-use Rattle.std.specs.Prelude.{ℕ, zero, suc, ◌+◌, Bool, true, false, List, [], ◌∷◌, ◌++◌}
+use Rattle.std.specs.Prelude.{ℕ, zero, suc, List, [], ◌∷◌, ◌++◌}
 use Rattle.std.proofs.Math.Option.{Option, none, some}
 use Rattle.rules.specs.Numbers.{Name, same_name}
 use Rattle.rules.specs.Outcome.{choose, given}
-use Rattle.rules.specs.Tree.{Tree, Head, Expr, Exprs, Binds, Params, Heads, identity, constant, variable, constants, array, plain, import, local, function, object}
+use Rattle.rules.specs.Tree.{Tree, Expr, Exprs, Binds, Params, Heads, identity, constant, variable, constants, array, plain, import, local, function, object}
 use Rattle.rules.specs.Tree.{Binding, at_record, external, ◌then◌, no_exprs, no_binds, no_params, no_heads, bind, param, param_or, fixed, computed}
 
 -- the names in force, the nearest first; the innermost and the outermost object
