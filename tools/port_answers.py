@@ -153,6 +153,12 @@ class Function:
                             k, rest = k + 1, rest[1:]
                         name = auto_of(p[3], k) if p[3] else None
                         return [new, "auto", name or "?" + "_".join(fields[1:])] + rest[1:]
+                    if fields and fields[0] == "new" and len(fields) > 1 and fields[1] in ("0", "1") and p[3]:
+                        k, rest = 0, fields[1:]
+                        while rest and rest[0] == "1":
+                            k, rest = k + 1, rest[1:]
+                        ps = params_of(p[3].split("::")[0], p[3].split("::")[-1])
+                        return [new, "new", ps[k] if k < len(ps) else "?" + "_".join(fields[1:])] + rest[1:]
                     return [new] + fields
         if fields and fields[0] == "given":
             typed = self.data["typed"][self.at[place]]

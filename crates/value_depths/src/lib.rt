@@ -31,7 +31,7 @@ fn higher(a: u32, b: u32) -> u32
 
 impl AnalysisResult {
     pub fn no_dependence() -> AnalysisResult
-        ensures* { λ r. ⌜ result r ≡ no-dependence ⌝ }
+        ensures { result_of result ≡ no_dependence }
     {
         AnalysisResult {
             object_dependent_depth: NEVER,
@@ -41,7 +41,7 @@ impl AnalysisResult {
     }
 
     pub fn depend_on_object(self, depth: u32) -> AnalysisResult
-        ensures* { λ r. ⌜ result r ≡ depend-on-object depth (result self) ⌝ }
+        ensures { result_of result ≡ depend_on_object depth (result_of self) }
     {
         AnalysisResult {
             object_dependent_depth: lower(self.object_dependent_depth, depth),
@@ -51,7 +51,7 @@ impl AnalysisResult {
     }
 
     pub fn depend_on_local(self, depth: u32) -> AnalysisResult
-        ensures* { λ r. ⌜ result r ≡ depend-on-local depth (result self) ⌝ }
+        ensures { result_of result ≡ depend_on_local depth (result_of self) }
     {
         AnalysisResult {
             object_dependent_depth: self.object_dependent_depth,
@@ -61,7 +61,7 @@ impl AnalysisResult {
     }
 
     pub fn taint_by(self, other: AnalysisResult) -> AnalysisResult
-        ensures* { λ r. ⌜ result r ≡ taint-by (result self) (result other) ⌝ }
+        ensures { result_of result ≡ taint_by (result_of self) (result_of other) }
     {
         AnalysisResult {
             object_dependent_depth: lower(
@@ -78,7 +78,7 @@ impl AnalysisResult {
 
     // Whether the two say the same.
     pub fn same(self, other: AnalysisResult) -> bool
-        ensures* { λ r. ⌜ r ≡ same-result (result self) (result other) ⌝ }
+        ensures { result ≡ same_result (result_of self) (result_of other) }
     {
         if self.object_dependent_depth != other.object_dependent_depth {
             return false;
