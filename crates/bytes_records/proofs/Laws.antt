@@ -1,6 +1,6 @@
 -- Laws of marks, of the numbers of a record, and of the tests of the code. Assumes nothing.
 use Prim.Native.Nat.{ℕ, zero, suc, ◌+◌, ◌-◌, ◌≤◌, ◌<◌}
-use mathlib.Core.Bool.{Bool, true, false, not}
+use mathlib.Core.Bool.{Bool, true, false}
 use mathlib.Core.List.{List, [], ◌∷◌}
 use mathlib.Core.Path.{◌≡◌, refl, sym, ap, ◌∙◌}
 use native.Mathlib.Nat.{add_assoc}
@@ -9,7 +9,7 @@ use native.Mathlib.Decide.{dec_le}
 use lib.ListN.{length, take, drop, length-drop}
 use lib.Seq.{get_or-drop, take_all}
 use lib.Dec.{eqb, leb}
-use borrow.Author.Tests.{eqb-true, le-leb, lt-leb, leb-true, leb-false, not-true, not-false}
+use borrow.Author.Tests.{eqb-true, le-leb, lt-leb, leb-true, leb-false}
 use Rattle.rules.specs.Outcome.{choose}
 use Rattle.rules.specs.Numbers.{Mark, JT, ID, TV, VA, AR, OX, UN, BI, AS, LO, ER, IM, AP, IX, FN, IF, SC, OB, BV, BF, PA, AT, FH, NA, PT, LS, CS, SU, BL, AC, IY, FV, SH, DG, code, number_at, numbers_at, bit, is_set}
 use Rattle.rules.specs.Records.{size_of}
@@ -104,8 +104,8 @@ pub flag_set : (n : ℕ) → (n ≡ 0 → ⊥) → (1 ≡ bit (is_set n)) × (1 
 flag_set n h = (ap bit (sym (set_of h)), omega arith)
 
 -- what `has_room` answered
-pub room_there : (a n l : ℕ) (r : Bool) → r ≡ leb (a + n) l → not r ≡ false → a + n ≤ l
-room_there a n l r e h = leb-true (a + n) l (sym e ∙ not-false r h)
+pub room_there : (a n l : ℕ) (r : Bool) → r ≡ leb (a + n) l → r ≡ true → a + n ≤ l
+room_there a n l r e h = leb-true (a + n) l (sym e ∙ h)
 
-pub room_missing : (a n l : ℕ) (r : Bool) → r ≡ leb (a + n) l → not r ≡ true → l < a + n
-room_missing a n l r e h = leb-false (a + n) l (sym e ∙ not-true r h)
+pub room_missing : (a n l : ℕ) (r : Bool) → r ≡ leb (a + n) l → r ≡ false → l < a + n
+room_missing a n l r e h = leb-false (a + n) l (sym e ∙ h)

@@ -1,13 +1,13 @@
 -- Turns of the loop over constants: what is left, from here, is there where the whole is. Assumes nothing.
 use Prim.Native.Nat.{ℕ, zero, suc, ◌+◌, ◌*◌, ◌-◌, ◌≤◌, ◌<◌}
-use mathlib.Core.Bool.{Bool, true, false, not, false≢true}
+use mathlib.Core.Bool.{Bool, true, false, false≢true}
 use mathlib.Core.List.{List}
 use mathlib.Core.Option.{Option, none, some}
 use mathlib.Core.Path.{◌≡◌, refl, sym, ◌∙◌}
 use native.Mathlib.Omega.{arith}
 use lib.ListN.{length}
 use lib.Dec.{eqb}
-use borrow.Author.Tests.{le-leb, lt-leb, leb-true, not-true, not-false}
+use borrow.Author.Tests.{le-leb, lt-leb, leb-true}
 use Rattle.rules.specs.Outcome.{choose}
 use Rattle.rules.specs.Numbers.{code, code_at, number_at}
 use Rattle.rules.specs.FirstWalk.{front, constant_at, constants_at}
@@ -45,22 +45,22 @@ module _ (s : List ℕ) where
     constants_end le = let e : n - i ≡ 0 = omega arith in (rw e at T.same)
 
     module _ (lt : i < n) {r : Bool} (h : r ≡ constant_at s p) where
-      pub constants_stop : not r ≡ true → false ≡ is_some (constants_at s n at)
+      pub constants_stop : r ≡ false → false ≡ is_some (constants_at s n at)
       unfolding constants_at is_some choose
       constants_stop f =
           let e : n - i ≡ suc (n - (i + 1)) = omega arith in
-          let g : constant_at s p ≡ false = sym h ∙ not-true _ f in
+          let g : constant_at s p ≡ false = sym h ∙ f in
           (rw (e, g) at T.same)
 
-      pub constants_next : not r ≡ false → Constants n (i + 1) at (p + 6)
+      pub constants_next : r ≡ true → Constants n (i + 1) at (p + 6)
       unfolding constants_at is_some choose
       constants_next f =
           let e : n - i ≡ suc (n - (i + 1)) = omega arith in
-          let g : constant_at s p ≡ true = sym h ∙ not-false _ f in
+          let g : constant_at s p ≡ true = sym h ∙ f in
           record { same = sym (front_some (number_at s (p + 2)) (constants_at s (n - (i + 1)) (p + 6))) ∙ (rw (e, g) at T.same); turns = omega arith }
 
-      pub constants_room : not r ≡ false → p + 6 ≤ length s
-      constants_room f = constant_room p (sym h ∙ not-false _ f)
+      pub constants_room : r ≡ true → p + 6 ≤ length s
+      constants_room f = constant_room p (sym h ∙ f)
 
   pub constants_fit : (n p : ℕ) → is_some (constants_at s n p) ≡ true → p ≤ length s → p + 6 * n ≤ length s
   unfolding constants_at is_some choose
