@@ -35,7 +35,7 @@ class List(unittest.TestCase):
                 self.assertLessEqual(set(name.split('::')), rust, crate.name)
 
     def test_small_list(self):
-        (wing,) = wings.wings_of('# about the file\n\n## low: the ground\n\n# Holds a. Carries over: `A`, `B`\na:\n# Holds b.\nb: a io # why\n')
+        (wing,) = wings.wings_of('# about the file\n\n## low: the ground\n\n# Holds a. Carries over: `A`, `B`\na:\n# Holds b.\nb staticlib: a io # why\n')
         self.assertEqual((wing.name, wing.what), ('low', 'the ground'))
         self.assertEqual([(c.name, c.holds, c.carries, c.stands_on) for c in wing.crates],
                          [('a', 'Holds a.', '`A`, `B`', []), ('b', 'Holds b.', '', ['a', 'io'])])
