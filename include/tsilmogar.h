@@ -1,5 +1,5 @@
 /*
- * Tsilmogar's analyser for C and C++: the one function of libanalyze.a (`rt staticlib analyze` makes it, for x86-64).
+ * Tsilmogar's analyser for C and C++: the one function of libanalyze.a (`tools/build.sh analyze` makes it, for x86-64).
  *
  * What it takes and answers is document 01's (01-scope.md): the packed tree, the output's records, the diagnostics,
  * the refusals. For every tree, buffers and limits the report and all six buffers are proved to be those of the

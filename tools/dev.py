@@ -1,23 +1,23 @@
 #!/usr/bin/env python3
-"""dev.py NAME [--write] [--full] ..: `rt dev NAME`, its messages shortened.
+"""dev.py NAME [--write] [--full] ..: `rt check` in crates/NAME, its messages shortened.
 
 The proof files that Rattle offers are listed and not printed; with --write they are written where there is none yet. Further
-words go on to `rt dev`.
+words go on to `rt check`, such as `--only FUNCTION`.
 """
 
 import argparse
-import os
 import re
 import subprocess
 from pathlib import Path
 
 OFFER = re.compile(r'help: write (\S+) with these lines')
 NOISE = re.compile(r'logic|library|note: antt.s advice')
+CRATES = Path(__file__).resolve().parent.parent / 'crates'
 DETAIL = re.compile(r'note: what antt said|note: /(?!.*(?:it is not proved|goal))|  (?:was found|= \d|Congruence)')
 
 
 def offered_files(log):
-    """The proof files that a log of `rt dev` offers: their paths with their texts."""
+    """The proof files that a log of `rt check` offers: their paths with their texts."""
     offered, path = {}, None
     for line in log.split('\n'):
         if found := OFFER.match(line):
@@ -45,17 +45,19 @@ def main():
     parser.add_argument('--write', action='store_true', help='write the offered files where there is none yet')
     parser.add_argument('--full', action='store_true', help='print every message whole')
     options, words = parser.parse_known_args()
-    run = subprocess.run(['rt', 'dev', options.name, *words], capture_output=True, text=True, env=dict(os.environ, RT_CUT='0'))
+    folder = CRATES / options.name
+    run = subprocess.run(['rt', 'check', *words], cwd=folder, capture_output=True, text=True)
     log = run.stdout + run.stderr
     for line in other_lines(log):
         if line.strip() and not NOISE.match(line) and (options.full or not DETAIL.match(line)):
             print(line if options.full else line[:700])
     for path, text in offered_files(log).items():
-        if Path(path).exists():
+        file = folder / path
+        if file.exists():
             print('there is', path)
         elif options.write:
-            Path(path).parent.mkdir(parents=True, exist_ok=True)
-            Path(path).write_text(text)
+            file.parent.mkdir(parents=True, exist_ok=True)
+            file.write_text(text)
             print('wrote', path)
         else:
             print('wanted', path)

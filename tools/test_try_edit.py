@@ -36,6 +36,10 @@ class Edits(unittest.TestCase):
     def test_verdicts(self):
         fact = 'P.antt:36:150: error: `s`: the two types first differ\nlogic=not-proved\n'
         self.assertTrue(try_edit.verdict(fact, 1)[1])
+        goal = 'note: src/parts.rt:29:32: it is not proved that the index is below the length (`bounds-table-i`)\nlogic=not-proved\n'
+        words, good = try_edit.verdict(goal, 1)
+        self.assertTrue(good)
+        self.assertIn('bounds-table-i', words)
         self.assertFalse(try_edit.verdict('logic=proved\n', 0)[1])
         for fault in ('S.antt:1:2: error: `S`: `x` is not in scope', 'P.antt:1:2: error: `p`: record `After-f` has no field `g`',
                       'l.rt:4:58: error: module `M` has no `B` that can be named from here', 'l.rt:17:15: error[unknown-name]: cannot find value `left`'):

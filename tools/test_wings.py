@@ -35,7 +35,7 @@ class List(unittest.TestCase):
                 self.assertLessEqual(set(name.split('::')), rust, crate.name)
 
     def test_small_list(self):
-        (wing,) = wings.wings_of('# about the file\n\n## low: the ground\n\n# Holds a. Carries over: `A`, `B`\na:\n# Holds b.\nb: a io # why\n')
+        (wing,) = wings.wings_of('# about the file\n\n## low: the ground\n\n# Holds a. Carries over: `A`, `B`\na:\n# Holds b.\nb staticlib: a io # why\n')
         self.assertEqual((wing.name, wing.what), ('low', 'the ground'))
         self.assertEqual([(c.name, c.holds, c.carries, c.stands_on) for c in wing.crates],
                          [('a', 'Holds a.', '`A`, `B`', []), ('b', 'Holds b.', '', ['a', 'io'])])
@@ -118,15 +118,18 @@ class Picture(unittest.TestCase):
 
 class Documents(unittest.TestCase):
     def test_crates_that_are_named_are_there(self):
-        """Every crates/NAME, every `NAME::function` whose NAME begins with a wing's word, and every `NAME` that no function is called like."""
+        """Every crates/NAME, every `NAME::function` whose NAME begins with a wing's word, and every `NAME` like a crate's that no theorem has."""
         known = set(CRATES)
+        declared = re.compile(r'^ *(?:(?:pub|abbrev|unfoldable|opaque|record|data) )*([a-z_]+) *:', re.M)
+        written = [file for part in ('specs', 'proofs') for file in ROOT.glob(f'crates/*/{part}/**/*.antt')]
+        theorems = {name for file in written for name in declared.findall(file.read_text())} - known
         prefixes = {name.split('_')[0] + '_' for name in CRATES if '_' in name}
         files = [*ROOT.glob('*.md'), *(ROOT / 'docs').glob('*.md'), *ROOT.glob('examples/*.md'), *ROOT.glob('bindings/rust/*.md'), *ROOT.glob('include/*.h')]
         for file in files:
             text = file.read_text()
             named = set(re.findall(r'\bcrates/([a-z_]+)\b', text)) - {'jrsonnet', 'NAME'}
             named |= {name for name in re.findall(r'`([a-z_]+)::', text) if name.startswith(tuple(prefixes))}
-            named |= set(re.findall(r'`((?:step|law|claim|call|gate|slots)_[a-z_]+)`', text))
+            named |= set(re.findall(r'`((?:step|law|claim|call|gate|slots)_[a-z_]+)`', text)) - theorems
             self.assertLessEqual(named, known, file.name)
 
     def test_functions_that_are_named_are_there(self):

@@ -1,14 +1,15 @@
 #!/usr/bin/env python3
-"""Tries one must-fail edit alone, which `rt must-fail NAME` cannot: it tries those of all crates that NAME stands on too.
+"""Tries one must-fail edit alone, which `rt must-fail NAME` cannot: it tries all of NAME.
 
 usage: try_edit.py NAME/EDIT     as step_static/static_equal_highest, for crates/step_static/must-fail/static_equal_highest.edit
 
-The edit is made in crates/NAME, `rt dev NAME` is run, and the files are put back, whatever happens. What the checker said is kept in
+The edit is made in crates/NAME, `rt check` is run there, and the files are put back, whatever happens. What the checker said is kept in
 target/try_edit/NAME/EDIT.log. It ends with 0 if the edit was refused and no message speaks of a name that is missing: then a fact no longer holds,
 as it should be. The verdict is still that of `rt ci`.
 """
 import argparse
 import pathlib
+import re
 import subprocess
 import sys
 
@@ -17,6 +18,9 @@ ROOT = pathlib.Path(__file__).resolve().parent.parent
 # What the checker says where an edit breaks the text and not a fact: a name that is missing in a definition, one that is missing in a `use`, a
 # call that a proof speaks of and that is gone, and whatever is wrong with the code before anything is proved.
 TEXT_FAULTS = ['is not in scope', 'that can be named from here', 'has no field', ': error[']
+
+# An error of the code, of a definition or of a proof, and a goal that is left.
+SAID = re.compile(r'.*: error|note: \S+:\d+:\d+: .*not proved')
 
 
 class Fault(Exception):
@@ -46,7 +50,7 @@ def edited(text, old, new, file):
 
 
 def tried(crate, edit):
-    """What `rt dev` says of a crate with an edit made in it, and how it ends."""
+    """What `rt check` says of a crate with an edit made in it, and how it ends."""
     folder = ROOT / 'crates' / crate
     before = {}
     try:
@@ -57,7 +61,7 @@ def tried(crate, edit):
             path.write_text(edited(text, old, new, file))
         if not before:
             raise Fault('the edit has no `old:` and `new:`')
-        done = subprocess.run(['rt', 'dev', crate], cwd=ROOT, stdout=subprocess.PIPE, stderr=subprocess.STDOUT, text=True)
+        done = subprocess.run(['rt', 'check'], cwd=folder, stdout=subprocess.PIPE, stderr=subprocess.STDOUT, text=True)
         return done.stdout, done.returncode
     finally:
         for path, text in before.items():
@@ -68,7 +72,7 @@ def verdict(said, status):
     """What became of an edit, from what the checker said and how it ended; and whether that is as it should be."""
     if status == 0:
         return 'NOT REFUSED: the crate is still proved with this edit', False
-    errors = [line for line in said.split('\n') if ': error' in line]
+    errors = [line for line in said.split('\n') if SAID.match(line)]
     faults = [line for line in errors if any(fault in line for fault in TEXT_FAULTS)]
     if faults or 'logic=not-proved' not in said:
         return 'NO GOOD: it breaks the text and not a fact: ' + (faults or errors or ['(see the log)'])[0], False

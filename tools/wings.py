@@ -23,7 +23,7 @@ ROOT = pathlib.Path(__file__).resolve().parent.parent
 PICTURE = 'docs/architecture.svg'
 
 # Libraries of the toolchain: they are no crates of ours.
-KIT = {'std', 'check', 'libc', 'io', 'os', 'bytes'}
+KIT = {'std', 'io', 'bytes', 'check', 'memchr', 'itoa'}
 
 # The wings without code.
 BESIDE = {'laws', 'claims'}
@@ -64,6 +64,8 @@ def wings_of(text):
             continue
         elif line.strip():
             name, _, names = line.partition(':')
+            # what stands behind a name is its kind: `analyze_c staticlib: ..`
+            name = name.split()[0]
             if not comment:
                 raise Fault(f'crates.txt, line {number}: no line above {name} says what it holds')
             if not wings:

@@ -1,4 +1,4 @@
-//! Links the proved analyser, which `rt staticlib analyze` makes in the repository's root. `TSILMOGAR_LIBRARY` may name
+//! Links the proved analyser, which `tools/build.sh analyze` makes in the repository's root. `TSILMOGAR_LIBRARY` may name
 //! another archive, or the folder of one.
 
 use std::env;
@@ -28,7 +28,7 @@ fn main() {
     let Ok(archive) = archive.canonicalize() else {
         eprintln!(
             "\nThe proved analyser is not at {}.\n\
-             Run `rt staticlib analyze` in the repository's root, or set TSILMOGAR_LIBRARY to the archive's path.\n",
+             Run `tools/build.sh analyze` in the repository's root, or set TSILMOGAR_LIBRARY to the archive's path.\n",
             archive.display()
         );
         std::process::exit(1);

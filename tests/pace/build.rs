@@ -1,4 +1,4 @@
-//! Links the proved first walk: `rt staticlib tree_c` in the repository's root makes it.
+//! Links the proved first walk: `tools/build.sh tree_c` in the repository's root makes it.
 
 use std::path::PathBuf;
 

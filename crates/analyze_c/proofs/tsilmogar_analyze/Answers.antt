@@ -1,6 +1,6 @@
--- the call for C tells the report in nine numbers and leaves the same buffers. Assumes nothing.
+-- The call for C tells the report in nine numbers and leaves the same buffers. Assumes nothing.
 use Rattle.analyze.proofs.Laws.{told, nine_numbers}
-use Rattle.analyze.proofs.tsilmogar_analyze.Goals as goal
+use Rattle.analyze_c.proofs.tsilmogar_analyze.Goals as goal
 
 pub returns : goal.returns
 returns c =
