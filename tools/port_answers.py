@@ -111,6 +111,7 @@ class Function:
     def __init__(self, key, data):
         self.key, self.data = key, data
         self.stem = data["stem"]
+        self.cycle = ".+" in key
         self.at = {p[0]: k for k, p in enumerate(data["places"])}
         self.goal_place = {}
         self.goals = {}
@@ -205,6 +206,12 @@ def turned(body, var, fn, place):
     places, steps = {var}, {}
 
     def path(head, fields):
+        its = path_of(head, fields)
+        if fn.cycle and its[:2] == ["c", "requires"] and len(its) > 2 and its[2] in ("0", "1"):
+            its = ["c", "decreases"] + its[3:] if its[2] == "0" else ["c", "requires"] + its[3:]
+        return its
+
+    def path_of(head, fields):
         if head in steps:
             base = steps[head]
             if isinstance(base, list):
