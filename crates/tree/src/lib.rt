@@ -3,7 +3,7 @@
 #![tactic(auto)]
 
 ghost use Rattle.std.specs.Prelude.{◌≡◌, ◌+◌, ◌≤◌, ◌<◌, length};
-ghost use Rattle.rules.specs.Numbers.{FH, numbers_at};
+ghost use Rattle.rules.specs.Numbers.{FH as field_head, numbers_at};
 ghost use Rattle.rules.specs.Records.{numbers_of, fields, all_in_range};
 ghost use Rattle.rules.specs.FirstWalk.{any_expression, expr_at, tree_at};
 ghost use Rattle.bytes_records.specs.Marks.{mark_of};
@@ -29,7 +29,7 @@ pub enum FirstWalk {
 
 // Whether a field's head that the bytes begin with has its kind, flags and visibility in range.
 fn head_in_range(bytes: &[u8]) -> bool
-    ensures { result ≡ all_in_range (fields FH) (numbers_at bytes.now 6 2) }
+    ensures { result ≡ all_in_range (fields field_head) (numbers_at bytes.now 6 2) }
 {
     if 2 <= number_at(bytes, offsets::FH_KIND) {
         return false;
