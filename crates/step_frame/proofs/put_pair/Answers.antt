@@ -6,4 +6,4 @@ use Rattle.step_frame.proofs.put_pair.Goals as goal
 
 pub returns : goal.returns
 returns c =
-    pair_behind c.put_record.result c.args.out.now c.put_record.new.0 c.args.used (numbers_bytes (c.args.a ∷ c.args.b ∷ [])) c.requires.0 c.requires.1 c.put_record.ensures
+    pair_behind c.put_record.result c.args.out.now c.put_record.new.out c.args.used (numbers_bytes (c.args.a ∷ c.args.b ∷ [])) c.requires.0 c.requires.1 c.put_record.ensures

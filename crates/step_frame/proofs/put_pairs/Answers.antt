@@ -4,17 +4,17 @@ use Rattle.step_frame.proofs.Closing.{pairing_begin, pairing_end, pairing_done, 
 use Rattle.step_frame.proofs.put_pairs.Goals as goal
 
 pub loop-at-init : goal.loop-at-init
-loop-at-init c = pairing_begin _ _ _ _ _ _ c.requires.0.1 c.requires.1.0.1 c.requires.1.0.2
+loop-at-init c = pairing_begin _ _ _ _ _ _ c.requires.le_used.1 c.requires.count_in_bounds.1 c.requires.count_in_bounds.2
 
 pub next_capture-next-requires : goal.next_capture-next-requires
-next_capture-next-requires c = (c.requires.1.0.0, c.loop-at.invariant.within, c.requires.1.1)
+next_capture-next-requires c = (c.requires.count_in_bounds.0, c.loop-at.invariant.within, c.requires.by_index)
 
 pub returns-in_default : goal.returns-in_default
 returns-in_default c = pairing_end _ _ _ _ _ _ _ _ c.loop-at.invariant (rw c.in_default.is at c.next_capture-next.ensures)
 
 pub put_pair-written-requires : goal.put_pair-written-requires
 put_pair-written-requires c =
-    (omega (arith, c.loop-at.invariant.written.0, c.requires.0.0), omega (arith, c.loop-at.invariant.written.1, c.loop-at.invariant.long))
+    (omega (arith, c.loop-at.invariant.written.0, c.requires.le_used.0), omega (arith, c.loop-at.invariant.written.1, c.loop-at.invariant.long))
 
 pub returns-in_default-written : goal.returns-in_default-written
 returns-in_default-written c =

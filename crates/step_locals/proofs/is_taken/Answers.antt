@@ -8,7 +8,8 @@ overflow_sub-n c = first_within c.args.frames.now c.args.st _ c.first_in_frame-f
 
 pub newest-found-requires : goal.newest-found-requires
 newest-found-requires c =
-    (omega (arith, first_within c.args.frames.now c.args.st _ c.first_in_frame-first.ensures c.requires.2), omega (arith, first_within c.args.frames.now c.args.st _ c.first_in_frame-first.ensures c.requires.2, c.?struct_known.given.0))
+    let within = first_within c.args.frames.now c.args.st _ c.first_in_frame-first.ensures c.requires.2 in
+    (omega arith, omega arith)
 
 pub returns-in-At : goal.returns-in-At
 returns-in-At c =
