@@ -16,34 +16,34 @@ use Rattle.step_leaf.proofs.on_leaf.Goals as goal
 pub overflow_add-at : goal.overflow_add-at
 unfolding code
 overflow_add-at c =
-    let there = c.requires.1 in let read = leaf_read (limits_of c.args.limits [] []) there in let size = constant_size c.args.tree.now c.args.nest c.args.at read (there.marked ∙ c.in-21590.is) in omega (arith, size, c.requires.0.short)
+    let there = c.requires.leaf_there in let read = leaf_read (limits_of c.args.limits [] []) there in let size = constant_size c.args.tree.now c.args.nest c.args.at read (there.marked ∙ c.in-21590.is) in omega (arith, size, c.requires.ready.short)
 
 pub copy_record-requires : goal.copy_record-requires
 unfolding code mark_of find_mark marks choose size_of numbers_of widths width fields
 copy_record-requires c =
-    let there = c.requires.1 in let read = leaf_read (limits_of c.args.limits [] []) there in (constant_size c.args.tree.now c.args.nest c.args.at read (there.marked ∙ c.in-21590.is), there.marked ∙ c.in-21590.is)
+    let there = c.requires.leaf_there in let read = leaf_read (limits_of c.args.limits [] []) there in (constant_size c.args.tree.now c.args.nest c.args.at read (there.marked ∙ c.in-21590.is), there.marked ∙ c.in-21590.is)
 
 pub analyze_import-requires : goal.analyze_import-requires
 unfolding code
 analyze_import-requires c =
-    let there = c.requires.1 in let read = leaf_read (limits_of c.args.limits [] []) there in import_size c.args.tree.now c.args.nest c.args.at read (there.marked ∙ c.in-18765.is)
+    let there = c.requires.leaf_there in let read = leaf_read (limits_of c.args.limits [] []) there in import_size c.args.tree.now c.args.nest c.args.at read (there.marked ∙ c.in-18765.is)
 
 pub analyze_name-requires : goal.analyze_name-requires
 unfolding code
 analyze_name-requires c =
-    let there = c.requires.1 in let read = leaf_read (limits_of c.args.limits [] []) there in let fit = c.requires.0.fit in ((name_size c.args.tree.now c.args.nest c.args.at there.marked there.leaf (λ e. c.in_default.not-21590 e) (λ e. c.in_default.not-18765 e) read, name_kind c.args.tree.now c.args.nest c.args.at there.marked there.leaf (λ e. c.in_default.not-21590 e) (λ e. c.in_default.not-18765 e) read, stands c.requires.0, omega (arith, fit.locals_long, fit.few_locals)), (fit.frames_kept, fit.captures_long))
+    let there = c.requires.leaf_there in let read = leaf_read (limits_of c.args.limits [] []) there in let fit = c.requires.ready.fit in record { at_in_bounds = (name_size c.args.tree.now c.args.nest c.args.at there.marked there.leaf (λ e. c.in_default.not-21590 e) (λ e. c.in_default.not-18765 e) read, name_kind c.args.tree.now c.args.nest c.args.at there.marked there.leaf (λ e. c.in_default.not-21590 e) (λ e. c.in_default.not-18765 e) read, stands c.requires.ready, omega (arith, fit.locals_long, fit.few_locals)); kept = (fit.frames_kept, fit.captures_long) }
 
 pub returns-in-21590 : goal.returns-in-21590
 unfolding code mark_of find_mark marks choose size_of numbers_of widths width fields
 returns-in-21590 c =
-    let there = c.requires.1 in let read = leaf_read (limits_of c.args.limits [] []) there in let fit = c.requires.0.fit in leaf_walked c.args.tree.now c.args.nest c.args.at there.marked (place_of c.args.here) there.leaf there.read (constant_returns c.args.tree.now c.args.nest c.args.at read unnamed (place_of c.args.here) (there.marked ∙ c.in-21590.is) (c.copy_record.ensures.walks c.args.limits _ _ _ _ _ fit))
+    let there = c.requires.leaf_there in let read = leaf_read (limits_of c.args.limits [] []) there in let fit = c.requires.ready.fit in leaf_walked c.args.tree.now c.args.nest c.args.at there.marked (place_of c.args.here) there.leaf there.read (constant_returns c.args.tree.now c.args.nest c.args.at read unnamed (place_of c.args.here) (there.marked ∙ c.in-21590.is) (c.copy_record.ensures.walks c.args.limits _ _ _ _ _ fit))
 
 pub returns-in-18765 : goal.returns-in-18765
 unfolding code
 returns-in-18765 c =
-    let there = c.requires.1 in let read = leaf_read (limits_of c.args.limits [] []) there in let fit = c.requires.0.fit in leaf_walked c.args.tree.now c.args.nest c.args.at there.marked (place_of c.args.here) there.leaf there.read (import_returns c.args.tree.now c.args.nest c.args.at read unnamed (place_of c.args.here) (there.marked ∙ c.in-18765.is) (c.analyze_import.ensures.walks c.args.limits _ _ _ _ fit))
+    let there = c.requires.leaf_there in let read = leaf_read (limits_of c.args.limits [] []) there in let fit = c.requires.ready.fit in leaf_walked c.args.tree.now c.args.nest c.args.at there.marked (place_of c.args.here) there.leaf there.read (import_returns c.args.tree.now c.args.nest c.args.at read unnamed (place_of c.args.here) (there.marked ∙ c.in-18765.is) (c.analyze_import.ensures.walks c.args.limits _ _ _ _ fit))
 
 pub returns-in_default : goal.returns-in_default
 unfolding code
 returns-in_default c =
-    let there = c.requires.1 in let read = leaf_read (limits_of c.args.limits [] []) there in let fit = c.requires.0.fit in leaf_walked c.args.tree.now c.args.nest c.args.at there.marked (place_of c.args.here) there.leaf there.read (name_returns c.args.tree.now c.args.nest c.args.at there.marked there.leaf (λ e. c.in_default.not-21590 e) (λ e. c.in_default.not-18765 e) read (place_of c.args.here) (c.analyze_name.ensures.walks _ fit))
+    let there = c.requires.leaf_there in let read = leaf_read (limits_of c.args.limits [] []) there in let fit = c.requires.ready.fit in leaf_walked c.args.tree.now c.args.nest c.args.at there.marked (place_of c.args.here) there.leaf there.read (name_returns c.args.tree.now c.args.nest c.args.at there.marked there.leaf (λ e. c.in_default.not-21590 e) (λ e. c.in_default.not-18765 e) read (place_of c.args.here) (c.analyze_name.ensures.walks _ fit))

@@ -9,14 +9,14 @@ overflow_sub-n c = first_within c.args.frames.now c.args.st _ c.first_in_frame-f
 
 pub keep_references-kept-requires : goal.keep_references-kept-requires
 keep_references-kept-requires c =
-    (omega (arith, first_within c.args.frames.now c.args.st _ c.first_in_frame-first.ensures c.requires.first_there, c.requires.locals_long), omega (arith, first_within c.args.frames.now c.args.st _ c.first_in_frame-first.ensures c.requires.first_there, c.?struct_known.given.0), c.requires.references_long, c.requires.few_references)
+    (omega (arith, first_within c.args.frames.now c.args.st _ c.first_in_frame-first.ensures c.requires.first_there, c.requires.locals_long), omega (arith, first_within c.args.frames.now c.args.st _ c.first_in_frame-first.ensures c.requires.first_there), c.requires.references_long, c.requires.few_references)
 
 pub overflow_cast-after : goal.overflow_cast-after
-overflow_cast-after c = omega (arith, (rw c.in-To.is at c.keep_references-kept.ensures).fits, c.?struct-known3.given.1.1.1.0)
+overflow_cast-after c = omega (arith, (rw c.in-To.is at c.keep_references-kept.ensures).fits)
 
 pub returns-in-To : goal.returns-in-To
 returns-in-To c =
-    references_kept _ _ _ _ _ _ _ _ _ _ c.first_in_frame-first.ensures (first_within c.args.frames.now c.args.st _ c.first_in_frame-first.ensures c.requires.first_there) _ c.type_inv.locals c.type_inv.references (rw c.in-To.is at c.keep_references-kept.ensures)
+    references_kept _ _ _ _ _ _ _ _ _ _ c.first_in_frame-first.ensures (first_within c.args.frames.now c.args.st _ c.first_in_frame-first.ensures c.requires.first_there) _ c.keep_references-kept.auto.locals c.keep_references-kept.auto.references (rw c.in-To.is at c.keep_references-kept.ensures)
 
 pub returns-in-NoRoom : goal.returns-in-NoRoom
 returns-in-NoRoom c =
