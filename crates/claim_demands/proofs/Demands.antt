@@ -58,10 +58,10 @@ analyze_leaves_zeros tree b limits r b' called =
 -- and a refused one
 pub analyze_refuses : (tree : List ℕ) (b : Buffers) (limits : Limits) (r : AnalysisReport) (b' : Buffers) → Called tree b limits r b' → (r.number ≡ 0 → ⊥) → Refusal b r b'
 unfolding left lent report_meaning call left_by report_of out_of diagnostics_of filled zeroed
-analyze_refuses tree b limits r b' called SomeNumber = by (run (lent tree b limits)) refl
+analyze_refuses tree b limits r b' called some_number = by (run (lent tree b limits)) refl
   where
     by : (o : Outcome AnalysisStack) → run (lent tree b limits) ≡ o → Refusal b r b'
-    by (ok st) e = absurd (SomeNumber (ap (λ (l : Left). l.report.number) (called ∙ ap (left_by (lent tree b limits)) e)))
+    by (ok st) e = absurd (some_number (ap (λ (l : Left). l.report.number) (called ∙ ap (left_by (lent tree b limits)) e)))
     by (refuse number place) e =
         let is : left r b' ≡ left_by (lent tree b limits) (refuse number place) = called ∙ ap (left_by (lent tree b limits)) e in
         record {

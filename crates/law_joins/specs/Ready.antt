@@ -1,6 +1,6 @@
 -- What a walker asks of the state, of the place and of the bytes there; and the steps of an object in two parts. Assumes nothing.
-use Rattle.std.specs.Prelude.{ℕ, zero, suc, ◌+◌, ◌-◌, ◌*◌, ◌≤◌, ◌<◌, Bool, true, false, List, [], ◌≡◌, length}
-use Rattle.std.proofs.Math.Option.{Option, none, some}
+use Rattle.std.specs.Prelude.{ℕ, ◌+◌, ◌-◌, ◌≤◌, ◌<◌, Bool, false, List, [], ◌≡◌, length}
+use Rattle.std.proofs.Math.Option.{some}
 use Rattle.rules.specs.Outcome.{Outcome, ok, refuse, ◌>>=◌}
 use Rattle.rules.specs.Numbers.{Mark, code, code_at, number_at, ID, TV, VA, AR, IM, LO, FN, OB, NA, PT, AT}
 use Rattle.rules.specs.Tree.{Heads}
@@ -10,7 +10,7 @@ use Rattle.rules.specs.State as rules
 use Rattle.rules.specs.Scoping.{settle_frame}
 use Rattle.rules.specs.Walk as walk
 use Rattle.law_steady.specs.Steady.{Sound}
-use Rattle.law_runs.specs.Run.{Accepted, items_at, binds_at, params_at, heads_at, values_at, run_binds, run_assertions, run_values}
+use Rattle.law_runs.specs.Run.{Accepted, items_at, heads_at, values_at, run_binds, run_assertions, run_values}
 use Rattle.law_runs.specs.Steps.{begun_object, finished_object}
 use Rattle.state.specs.Seen.{Buffers, stack, Fit}
 use Rattle.state.specs.Walks.{place_of}

@@ -1,7 +1,7 @@
 -- The analysis from a place of the tree's bytes: what stands there is read, and then analysed. Both by the rules; only their order of telling is
 -- another one, because the code reads each record when it comes to it. Assumes nothing.
-use Rattle.std.specs.Prelude.{ℕ, zero, suc, ◌+◌, Bool, true, false, List, [], ◌∷◌, ◌≡◌}
-use Rattle.rules.specs.Outcome.{choose, given, Outcome, ok, refuse, ◌>>=◌}
+use Rattle.std.specs.Prelude.{ℕ, List, [], ◌∷◌, ◌≡◌}
+use Rattle.rules.specs.Outcome.{given, Outcome, ok, ◌>>=◌}
 use Rattle.rules.specs.Numbers.{Mark, NA, PT, AT, code_at}
 use Rattle.rules.specs.Tree.{Expr, Exprs, Binds, Params, Heads, no_exprs, no_binds, no_params, no_heads}
 use Rattle.rules.specs.FirstWalk.{Child, argument, index_part, assertion, any_expression, row_of, many, none_left, value_groups}

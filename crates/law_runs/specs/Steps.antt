@@ -1,8 +1,8 @@
 -- What the code does at each record of the tree, in its order: steps of the rules, with the walks over what stands below the record between them.
 -- `levels` are those left for what stands below. Assumes nothing.
-use Rattle.std.specs.Prelude.{ℕ, zero, suc, ◌+◌, ◌*◌, Bool, true, false, not, ◌&&◌, ◌||◌, List, [], ◌∷◌, ◌++◌, length, drop, eqb}
-use Rattle.rules.specs.Outcome.{choose, given, Outcome, ok, refuse, ◌>>=◌}
-use Rattle.rules.specs.Numbers.{Name, Mark, number_at, numbers_at, code, code_at, is_set, bit, same_bytes, record_bytes, AR, LO, OB, BV, BF, PA, FH, LS, AC, FV}
+use Rattle.std.specs.Prelude.{ℕ, zero, suc, ◌+◌, ◌*◌, Bool, true, false, not, ◌&&◌, ◌||◌, List, [], ◌∷◌, length, drop, eqb}
+use Rattle.rules.specs.Outcome.{choose, Outcome, ok, ◌>>=◌}
+use Rattle.rules.specs.Numbers.{Mark, number_at, numbers_at, code, code_at, is_set, bit, same_bytes, record_bytes, AR, LO, OB, BV, BF, PA, FH, LS, AC, FV}
 use Rattle.rules.specs.Records.{Span, numbers_of}
 use Rattle.rules.specs.Depths.{AnalysisResult, no_dependence}
 use Rattle.rules.specs.Settling.{propagate_analysis}
@@ -11,7 +11,7 @@ use Rattle.rules.specs.Writing.{emit, open_frame, close_frame}
 use Rattle.rules.specs.Scoping.{define_this, record_spec_init, settle_frame, finish_frame}
 use Rattle.rules.specs.Walk.{Place, Naming, unnamed, as_method, as_computed_method, bind_naming, deeper, in_object, is_outermost, entered_use, left_use}
 use Rattle.rules.specs.Walk.{use_identity, use_local, use_import, finish_function}
-use Rattle.law_runs.specs.Run.{run_expr, run_item, run_items, run_assertions, run_values, run_heads, run_binds, run_params, run_define_binds, run_define_params}
+use Rattle.law_runs.specs.Run.{run_expr, run_items, run_assertions, run_values, run_heads, run_binds, run_params, run_define_binds, run_define_params}
 
 -- Questions asked of the bytes
 

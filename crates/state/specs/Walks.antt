@@ -1,6 +1,6 @@
 -- What the answers of walks mean, where an expression stands and what a function is called; and the statement that every walk and step of the
 -- analysis makes: the rules' step, on the state that the buffers hold. Assumes nothing.
-use Rattle.std.specs.Prelude.{ℕ, ◌+◌, ◌≤◌, ◌<◌, Bool, true, false, ◌≡◌}
+use Rattle.std.specs.Prelude.{ℕ, ◌<◌, Bool, true, false, ◌≡◌}
 use Rattle.std.proofs.Math.Option.{Option, none, some}
 use Rattle.rules.specs.Outcome.{Outcome, ok, refuse}
 use Rattle.rules.specs.State as rules

@@ -28,8 +28,8 @@ pub loop-i-preserved : goal.loop-i-preserved
 loop-i-preserved c = (
   omega arith,
   elim c.if-owner_at-owner.branch [
-    then-owner_at-owner+else-target-id w ↦ rw w.k-is (passed_mine _ _ _ _ _ c.loop-i.invariant.1 (sym c.owner_at.ensures ∙ w.if-owner_at-owner.true) (λ e. w.if-target-id.false (w.target_at-target.ensures ∙ e)))
-  | else-owner_at-owner w ↦ rw w.k-is (passed_other _ _ _ _ _ c.loop-i.invariant.1 (λ e. w.if-owner_at-owner.false (c.owner_at.ensures ∙ e)))
+    | then-owner_at-owner+else-target-id w ↦ rw w.k-is (passed_mine _ _ _ _ _ c.loop-i.invariant.1 (sym c.owner_at.ensures ∙ w.if-owner_at-owner.true) (λ e. w.if-target-id.false (w.target_at-target.ensures ∙ e)))
+    | else-owner_at-owner w ↦ rw w.k-is (passed_other _ _ _ _ _ c.loop-i.invariant.1 (λ e. w.if-owner_at-owner.false (c.owner_at.ensures ∙ e)))
   ],
 )
 

@@ -14,8 +14,8 @@ pub loop-i-preserved : goal.loop-i-preserved
 loop-i-preserved c = (
   omega arith,
   elim c.if-owner_at-owner.branch [
-    then-owner_at-owner w ↦ w.own-is ∙ counted_mine _ _ _ _ c.loop-i.invariant.1 (sym c.owner_at.ensures ∙ w.if-owner_at-owner.true)
-  | else-owner_at-owner w ↦ w.own-is ∙ counted_other _ _ _ _ c.loop-i.invariant.1 (λ e. w.if-owner_at-owner.false (c.owner_at.ensures ∙ e))
+    | then-owner_at-owner w ↦ w.own-is ∙ counted_mine _ _ _ _ c.loop-i.invariant.1 (sym c.owner_at.ensures ∙ w.if-owner_at-owner.true)
+    | else-owner_at-owner w ↦ w.own-is ∙ counted_other _ _ _ _ c.loop-i.invariant.1 (λ e. w.if-owner_at-owner.false (c.owner_at.ensures ∙ e))
   ],
 )
 

@@ -21,7 +21,7 @@ returns-in_default c =
 
 pub loop-left-preserved : goal.loop-left-preserved
 loop-left-preserved c =
-    judging_goes_on c.loop-left.invariant c.loop-left-test.true _ c.local_at.ensures c.in-Ok.is c.type_inv.diagnostics c.judge-judged.ensures
+    judging_goes_on c.loop-left.invariant c.loop-left-test.true _ c.local_at.ensures c.in-Ok.is c.judge-judged.auto.diagnostics c.judge-judged.ensures
 
 pub returns : goal.returns
 returns c = judging_ends c.loop-left.invariant c.loop-left-test.false

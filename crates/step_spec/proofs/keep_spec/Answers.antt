@@ -6,7 +6,7 @@ use Rattle.step_spec.proofs.keep_spec.Goals as goal
 pub set_analysis-analysed-requires : goal.set_analysis-analysed-requires
 set_analysis-analysed-requires c =
     let stay = locals_stay _ _ _ _ _ _ _ _ _ _ c.keep_spec_references-noted.ensures _ c.in-Ok.is in
-    (omega (arith, stay, c.keep_spec_references-noted.auto.locals, c.requires.0.locals_long), omega (arith, stay, c.requires.1))
+    (omega (arith, stay, c.keep_spec_references-noted.auto.locals, c.requires.keepable.locals_long), omega (arith, stay, c.requires.id_lt_locals))
 
 pub returns-in-Ok : goal.returns-in-Ok
 returns-in-Ok c =

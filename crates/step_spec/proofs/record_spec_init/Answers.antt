@@ -8,7 +8,10 @@ id_of-id-requires c = kept_there _ _ _ _ _ _ _ c.is_kept.ensures c.if-is_kept.tr
 
 pub keep_spec-done-requires : goal.keep_spec-done-requires
 keep_spec-done-requires c =
-    (c.requires.0, omega (arith, c.id_of-id.ensures, kept_there _ _ _ _ _ _ _ c.is_kept.ensures c.if-is_kept.true c.first_in_frame.ensures))
+    record {
+      keepable = c.requires.0;
+      id_lt_locals = omega (arith, c.id_of-id.ensures, kept_there _ _ _ _ _ _ _ c.is_kept.ensures c.if-is_kept.true c.first_in_frame.ensures);
+    }
 
 pub returns-then-is_kept : goal.returns-then-is_kept
 returns-then-is_kept c =

@@ -7,8 +7,8 @@ use Rattle.table_frames.proofs.put_frame.Goals.{then-f, else-f}
 pub returns-clause-at : goal.returns-clause-at
 returns-clause-at c = record {
   defining = elim c.if-f.branch [
-    then-f w ↦ w.if-f.true ∙ sym (ap (λ n. eqb n 1) (c.put_entry.ensures.n0 ∙ w.is_defining-is))
-  | else-f w ↦ w.if-f.false ∙ sym (ap (λ n. eqb n 1) (c.put_entry.ensures.n0 ∙ w.is_defining-is))
+    | then-f w ↦ w.if-f.true ∙ sym (ap (λ n. eqb n 1) (c.put_entry.ensures.n0 ∙ w.is_defining-is))
+    | else-f w ↦ w.if-f.false ∙ sym (ap (λ n. eqb n 1) (c.put_entry.ensures.n0 ∙ w.is_defining-is))
   ];
   first = sym c.put_entry.ensures.n1;
   locals = sym c.put_entry.ensures.n2;
