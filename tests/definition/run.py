@@ -32,29 +32,27 @@ NOT_EQUAL = re.compile(r".*Stored\.antt:\d+:\d+: error: `([^`]+)`: .*(the two ty
 
 # the parts of an answer, and where the definition's answer has them
 PARTS = {
-    "number": ".report .number",
-    "place": ".report .place",
+    "number": ".report.number",
+    "place": ".report.place",
     "out": ".out",
-    "out-length": ".report .out-length",
+    "out_length": ".report.out_length",
     "diagnostics": ".diagnostics",
-    "diagnostics-length": ".report .diagnostics-length",
-    "errored": ".report .errored",
-    "rounds": ".report .rounds",
-    "object-depth": ".report .depths .object-dependent-depth",
-    "local-depth": ".report .depths .local-dependent-depth",
-    "greatest-local-depth": ".report .depths .local-dependent-depth-max",
+    "diagnostics_length": ".report.diagnostics_length",
+    "errored": ".report.errored",
+    "rounds": ".report.rounds",
+    "object_depth": ".report.depths.object_dependent_depth",
+    "local_depth": ".report.depths.local_dependent_depth",
+    "greatest_local_depth": ".report.depths.local_dependent_depth_max",
 }
 
 HEAD = """-- Generated: stored cases as theorems.
-use Prim.Native.Nat.{ℕ}
-use mathlib.Core.Bool.{Bool, true, false}
-use mathlib.Core.List.{List, [], _∷_, map}
-use mathlib.Core.Path.{_≡_, refl}
-use lib.ListN.{replicate}
-use Rattle·rules·specs.specs.Depths.{AnalysisResult}
-use Rattle·rules·specs.specs.Call.{Lent, AnalysisReport}
-use Rattle·rules·specs.specs.Cases.{Case, Answer, answered}
-use Rattle·rules·proofs.proofs.Computing.{everything}
+use Rattle.std.specs.Prelude.{ℕ, Bool, true, false, replicate}
+use mathlib.Core.List.{List, [], ◌∷◌, map}
+use mathlib.Core.Path.{◌≡◌, refl}
+use Rattle.rules.specs.Depths.{AnalysisResult}
+use Rattle.rules.specs.Call.{Lent, AnalysisReport}
+use Rattle.rules.specs.Cases.{Case, Answer, answered}
+use Rattle.rules.proofs.Computing.{everything}
 
 unfoldable pub lent : (L F C R locals frames captures references out diagnostics : ℕ) → List ℕ → Lent
 lent L F C R locals frames captures references out diagnostics tree = record {
@@ -65,22 +63,22 @@ lent L F C R locals frames captures references out diagnostics tree = record {
   frames = replicate frames 0;
   captures = replicate captures 0;
   references = replicate references 0;
-  max-locals = L;
-  max-frames = F;
-  max-captures = C;
-  max-references = R;
+  max_locals = L;
+  max_frames = F;
+  max_captures = C;
+  max_references = R;
 }
 
 unfoldable pub answer : (number place : ℕ) → (out : List ℕ) → ℕ → (diagnostics : List ℕ) → ℕ → Bool → (rounds object local most : ℕ) → Answer
-answer number place out out-length diagnostics diagnostics-length errored rounds object local most = record {
+answer number place out out_length diagnostics diagnostics_length errored rounds object local most = record {
   report = record {
     number = number;
     place = place;
-    out-length = out-length;
-    diagnostics-length = diagnostics-length;
+    out_length = out_length;
+    diagnostics_length = diagnostics_length;
     errored = errored;
     rounds = rounds;
-    depths = record { object-dependent-depth = object; local-dependent-depth = local; local-dependent-depth-max = most };
+    depths = record { object_dependent_depth = object; local_dependent_depth = local; local_dependent_depth_max = most };
   };
   out = out;
   diagnostics = diagnostics;
@@ -142,7 +140,7 @@ def words_of(values):
 
 
 def name_of(case):
-    return f"line-{case.line}"
+    return f"line_{case.line}"
 
 
 def case_lines(case):
@@ -159,9 +157,9 @@ def theorem(name, statement, opened):
 def batch_lines(batch, name):
     """One theorem for a whole batch: every answer is the stored one."""
     names = [name_of(case) for case in batch]
-    table = f"\nunfoldable pub {name}-cases : List Case\n{name}-cases = {' ∷ '.join(names)} ∷ []\n"
-    statement = f"map answered {name}-cases ≡ map (λ c. c .answer) {name}-cases"
-    opened = f"{name}-cases {' '.join(names)}"
+    table = f"\nunfoldable pub {name}_cases : List Case\n{name}_cases = {' ∷ '.join(names)} ∷ []\n"
+    statement = f"map answered {name}_cases ≡ map (λ c. c.answer) {name}_cases"
+    opened = f"{name}_cases {' '.join(names)}"
     return "".join(map(case_lines, batch)) + table + theorem(name, statement, opened)
 
 
@@ -169,7 +167,7 @@ def part_lines(case):
     """One theorem for each part of one answer."""
     name = name_of(case)
     theorems = (
-        theorem(f"{name}-{part}", f"answered {name} {path} ≡ {literal(case.answer[part])}", name)
+        theorem(f"{name}_{part}", f"(answered {name}){path} ≡ {literal(case.answer[part])}", name)
         for part, path in PARTS.items()
     )
     return case_lines(case) + "".join(theorems)
@@ -200,7 +198,7 @@ class Checker:
     def failing(self, theorems):
         """The names of those theorems that do not hold."""
         (self.proofs / "Stored.antt").write_text(HEAD + theorems)
-        ran = subprocess.run([self.rt, "dev", "rules"], cwd=self.folder, capture_output=True, text=True)
+        ran = subprocess.run([self.rt, "check"], cwd=self.proofs.parent, capture_output=True, text=True)
         said = ran.stdout + ran.stderr
         errors = [line for line in said.splitlines() if ": error: " in line]
         names = [NOT_EQUAL.match(line) for line in errors]
@@ -220,7 +218,7 @@ def pieces(things, size):
 
 def disagreeing(checker, cases, size):
     """Those cases whose answer is another: first by batches of this size, then each case of a failed batch alone."""
-    batches = {f"batch-{batch[0].line}": batch for batch in pieces(cases, size)}
+    batches = {f"batch_{batch[0].line}": batch for batch in pieces(cases, size)}
     failed = checker.failing("".join(batch_lines(batch, name) for name, batch in batches.items()))
     suspects = [case for name, batch in batches.items() if name in failed for case in batch]
     if size == 1 or not suspects:
@@ -234,7 +232,7 @@ def disagreeing(checker, cases, size):
 def differing_parts(checker, cases):
     """From the line of each case to the parts of its answer that differ."""
     failed = checker.failing("".join(part_lines(case) for case in cases)) if cases else set()
-    differing = {case.line: [part for part in PARTS if f"{name_of(case)}-{part}" in failed] for case in cases}
+    differing = {case.line: [part for part in PARTS if f"{name_of(case)}_{part}" in failed] for case in cases}
     if not all(differing.values()):
         raise CheckerFailed(f"an answer fails, but no part of it: {differing}")
     return differing
