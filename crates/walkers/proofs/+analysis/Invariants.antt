@@ -68,25 +68,25 @@ abbrev pub decreases-on_values : goal.decreases-on_values
 decreases-on_values l = 16 * l.nest + 5
 
 abbrev pub invariant-on_binds-loop-i : goal.invariant-on_binds-loop-i
-invariant-on_binds-loop-i l = TurnSpecs (λ l.n l.p. Accepted (binds_at l.tree l.nest l.n l.p)) (λ l.n l.p l.kept L σ. run_binds l.tree L l.nest l.n l.p l.base l.kept (place_of l.here) σ) l.limits l.tree l.nest l.here (buffers l.initial.out l.initial.diagnostics l.initial.locals l.initial.frames l.initial.captures l.initial.references) l.initial.state l.at l.n (buffers l.out l.diagnostics l.locals l.frames l.captures l.references) l.state l.p l.kept l.i
+invariant-on_binds-loop-i l = TurnSpecs (λ n p. Accepted (binds_at l.tree l.nest n p)) (λ n p kept L σ. run_binds l.tree L l.nest n p l.base kept (place_of l.here) σ) l.limits l.tree l.nest l.here (buffers l.initial.out l.initial.diagnostics l.initial.locals l.initial.frames l.initial.captures l.initial.references) l.initial.state l.at l.n (buffers l.out l.diagnostics l.locals l.frames l.captures l.references) l.state l.p l.kept l.i
 
 abbrev pub decreases-on_binds-loop-i : goal.decreases-on_binds-loop-i
 decreases-on_binds-loop-i l = l.n - l.i
 
 abbrev pub invariant-on_heads-loop-i : goal.invariant-on_heads-loop-i
-invariant-on_heads-loop-i l = Turn (λ l.n l.p. Accepted (heads_at l.tree l.nest l.n l.p)) (λ l.n l.p L σ. run_heads l.tree L l.nest l.n l.p (place_of l.here) σ) l.limits l.tree l.nest l.here (buffers l.initial.out l.initial.diagnostics l.initial.locals l.initial.frames l.initial.captures l.initial.references) l.initial.state l.at l.n (buffers l.out l.diagnostics l.locals l.frames l.captures l.references) l.state l.p l.i
+invariant-on_heads-loop-i l = Turn (λ n p. Accepted (heads_at l.tree l.nest n p)) (λ n p L σ. run_heads l.tree L l.nest n p (place_of l.here) σ) l.limits l.tree l.nest l.here (buffers l.initial.out l.initial.diagnostics l.initial.locals l.initial.frames l.initial.captures l.initial.references) l.initial.state l.at l.n (buffers l.out l.diagnostics l.locals l.frames l.captures l.references) l.state l.p l.i
 
 abbrev pub decreases-on_heads-loop-i : goal.decreases-on_heads-loop-i
 decreases-on_heads-loop-i l = l.n - l.i
 
 abbrev pub invariant-on_items-loop-i : goal.invariant-on_items-loop-i
-invariant-on_items-loop-i l = Turn (λ l.n l.p. Accepted (items_at l.tree l.nest l.n l.p)) (λ l.n l.p L σ. run_items l.tree L l.nest l.n l.p (place_of l.here) σ) l.limits l.tree l.nest l.here (buffers l.initial.out l.initial.diagnostics l.initial.locals l.initial.frames l.initial.captures l.initial.references) l.initial.state l.at l.n (buffers l.out l.diagnostics l.locals l.frames l.captures l.references) l.state l.p l.i
+invariant-on_items-loop-i l = Turn (λ n p. Accepted (items_at l.tree l.nest n p)) (λ n p L σ. run_items l.tree L l.nest n p (place_of l.here) σ) l.limits l.tree l.nest l.here (buffers l.initial.out l.initial.diagnostics l.initial.locals l.initial.frames l.initial.captures l.initial.references) l.initial.state l.at l.n (buffers l.out l.diagnostics l.locals l.frames l.captures l.references) l.state l.p l.i
 
 abbrev pub decreases-on_items-loop-i : goal.decreases-on_items-loop-i
 decreases-on_items-loop-i l = l.n - l.i
 
 abbrev pub invariant-on_params-loop-i : goal.invariant-on_params-loop-i
-invariant-on_params-loop-i l = TurnSpecs (λ l.n l.p. Accepted (params_at l.tree l.nest l.n l.p)) (λ l.n l.p l.kept L σ. run_params l.tree L l.nest l.n l.p l.kept (place_of l.here) σ) l.limits l.tree l.nest l.here (buffers l.initial.out l.initial.diagnostics l.initial.locals l.initial.frames l.initial.captures l.initial.references) l.initial.state l.at l.n (buffers l.out l.diagnostics l.locals l.frames l.captures l.references) l.state l.p l.kept l.i
+invariant-on_params-loop-i l = TurnSpecs (λ n p. Accepted (params_at l.tree l.nest n p)) (λ n p kept L σ. run_params l.tree L l.nest n p kept (place_of l.here) σ) l.limits l.tree l.nest l.here (buffers l.initial.out l.initial.diagnostics l.initial.locals l.initial.frames l.initial.captures l.initial.references) l.initial.state l.at l.n (buffers l.out l.diagnostics l.locals l.frames l.captures l.references) l.state l.p l.kept l.i
 
 abbrev pub decreases-on_params-loop-i : goal.decreases-on_params-loop-i
 decreases-on_params-loop-i l = l.n - l.i
