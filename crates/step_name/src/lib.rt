@@ -3,7 +3,7 @@
 #![tactic(auto)]
 
 ghost use Rattle.std.specs.Prelude.{◌≡◌, ◌+◌, ◌*◌, ◌≤◌, ◌<◌, length};
-ghost use Rattle.rules.specs.Numbers.{number_at, code, ID};
+ghost use Rattle.rules.specs.Numbers.{number_at, code, ID as identity};
 ghost use Rattle.resolver.specs.Kept.{Kept};
 ghost use Rattle.state.specs.Walks.{place_of, Stands};
 ghost use Rattle.step_name.specs.Answers.{identity_id, identity_step, variable_step, name_step, UsedObject, UsedLocal, Uses, NameAnalyzed};
@@ -182,8 +182,8 @@ fn use_name(
     mark: u32,
     here: Place,
 ) -> Used
-    requires { (at + 10 ≤ length tree.now) × (mark ≡ code ID → number_at tree.now (at + 2) < 3) × (Stands here st) ×
-        (16 * st.locals ≤ length locals.old) }
+    requires { (at + 10 ≤ length tree.now) × (mark ≡ code identity → number_at tree.now (at + 2) < 3) × (Stands here st)
+        × (16 * st.locals ≤ length locals.old) }
     ensures { Uses result out.old out.new diagnostics.old diagnostics.new locals.old locals.new st at (λ limits σ.
         name_step limits tree.now mark at (place_of here) σ) }
 {
@@ -208,8 +208,8 @@ pub fn analyze_name(
     mark: u32,
     here: Place,
 ) -> Walked
-    requires at_in_bounds { (at + 10 ≤ length tree.now) × (mark ≡ code ID → number_at tree.now (at + 2) < 3) × (Stands
-        here st) × (16 * st.locals ≤ length locals.old) }
+    requires at_in_bounds { (at + 10 ≤ length tree.now) × (mark ≡ code identity → number_at tree.now (at + 2) < 3)
+        × (Stands here st) × (16 * st.locals ≤ length locals.old) }
     requires kept { (Kept st.frames frames.now st.captures captures.old) × (16 * limits.max_captures ≤ length
         captures.old) }
     ensures { NameAnalyzed result tree.now out.old out.new diagnostics.old diagnostics.new locals.old locals.new

@@ -1,5 +1,5 @@
 -- Whether a record has nothing below it, by its mark. Assumes nothing.
-use Rattle.std.proofs.Common.{ap, sym}
+use Rattle.std.proofs.Common.{ap, arith, sym}
 use Rattle.rules.specs.Numbers.{code}
 use Rattle.step_leaf.specs.Leaves.{is_leaf}
 use Rattle.step_leaf.proofs.Laws.{no_leaf}
@@ -24,4 +24,4 @@ returns-in-18765 c = sym (ap is_leaf c.in-18765.is)
 pub returns-in_default : goal.returns-in_default
 unfolding code
 returns-in_default c =
-    sym (no_leaf (λ e. c.in_default.not-18756 e) (λ e. c.in_default.not-21590 e) (λ e. c.in_default.not-22081 e) (λ e. c.in_default.not-18765 e))
+    sym (no_leaf (λ e. omega arith) (λ e. omega arith) (λ e. omega arith) (λ e. omega arith))

@@ -31,7 +31,7 @@ analyze_import-requires c =
 pub analyze_name-requires : goal.analyze_name-requires
 unfolding code
 analyze_name-requires c =
-    let there = c.requires.leaf_there in let read = leaf_read (limits_of c.args.limits [] []) there in let fit = c.requires.ready.fit in record { at_in_bounds = (name_size c.args.tree.now c.args.nest c.args.at there.marked there.leaf (λ e. c.in_default.not-21590 e) (λ e. c.in_default.not-18765 e) read, name_kind c.args.tree.now c.args.nest c.args.at there.marked there.leaf (λ e. c.in_default.not-21590 e) (λ e. c.in_default.not-18765 e) read, stands c.requires.ready, omega (arith, fit.locals_long, fit.few_locals)); kept = (fit.frames_kept, fit.captures_long) }
+    let there = c.requires.leaf_there in let read = leaf_read (limits_of c.args.limits [] []) there in let fit = c.requires.ready.fit in record { at_in_bounds = (name_size c.args.tree.now c.args.nest c.args.at there.marked there.leaf (λ e. omega arith) (λ e. omega arith) read, name_kind c.args.tree.now c.args.nest c.args.at there.marked there.leaf (λ e. omega arith) (λ e. omega arith) read, stands c.requires.ready, omega (arith, fit.locals_long, fit.few_locals)); kept = (fit.frames_kept, fit.captures_long) }
 
 pub returns-in-21590 : goal.returns-in-21590
 unfolding code mark_of find_mark marks choose size_of numbers_of widths width fields
@@ -46,4 +46,4 @@ returns-in-18765 c =
 pub returns-in_default : goal.returns-in_default
 unfolding code
 returns-in_default c =
-    let there = c.requires.leaf_there in let read = leaf_read (limits_of c.args.limits [] []) there in let fit = c.requires.ready.fit in leaf_walked c.args.tree.now c.args.nest c.args.at there.marked (place_of c.args.here) there.leaf there.read (name_returns c.args.tree.now c.args.nest c.args.at there.marked there.leaf (λ e. c.in_default.not-21590 e) (λ e. c.in_default.not-18765 e) read (place_of c.args.here) (c.analyze_name.ensures.walks _ fit))
+    let there = c.requires.leaf_there in let read = leaf_read (limits_of c.args.limits [] []) there in let fit = c.requires.ready.fit in leaf_walked c.args.tree.now c.args.nest c.args.at there.marked (place_of c.args.here) there.leaf there.read (name_returns c.args.tree.now c.args.nest c.args.at there.marked there.leaf (λ e. omega arith) (λ e. omega arith) read (place_of c.args.here) (c.analyze_name.ensures.walks _ fit))

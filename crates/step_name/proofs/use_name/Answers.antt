@@ -1,4 +1,5 @@
 -- `use_name` is the rules' step of a name, up to the slot. Assumes nothing.
+use Rattle.std.proofs.Common.{arith}
 use Rattle.rules.specs.Numbers.{code}
 use Rattle.step_name.proofs.Using.{identity_name, variable_name}
 use Rattle.step_name.proofs.use_name.Goals as goal
@@ -13,4 +14,4 @@ returns-in-18756 c = identity_name _ _ _ c.use_identity.ensures c.in-18756.is
 
 pub returns-in_default : goal.returns-in_default
 unfolding code
-returns-in_default c = variable_name _ _ _ c.use_variable.ensures (λ e. c.in_default.not-18756 e)
+returns-in_default c = variable_name _ _ _ c.use_variable.ensures (λ e. omega arith)
