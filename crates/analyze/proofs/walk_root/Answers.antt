@@ -19,9 +19,13 @@ pub returns-in_default : goal.returns-in_default
 returns-in_default c =
     ran_refused c.args.tree.now (buffers c.args.out.now c.args.diagnostics.now c.args.locals.now c.args.frames.now c.args.captures.now c.args.references.now) _ c.args.limits c.in_default.is (entry_not_begun c.args.tree.now (buffers c.args.out.now c.args.diagnostics.now c.args.locals.now c.args.frames.now c.args.captures.now c.args.references.now) c.args.limits c.requires.tables_fit c.requires.short (record { tree = c.requires.root; there = c.requires.there; whole_tree = whole c.args.tree.now c.requires.there }) c.number_at-n.ensures c.begin_root-begun.ensures c.in_default.is)
 
-pub analyze-w-requires : goal.analyze-w-requires
-analyze-w-requires c =
-    (root_ready c.begin_root-begun.ensures c.in-Ok.is _ _ _ _ (long_lent c.args.tree.now (buffers c.args.out.now c.args.diagnostics.now c.args.locals.now c.args.frames.now c.args.captures.now c.args.references.now) c.args.limits c.requires.tables_fit) _ _ c.at_root.ensures.1 c.at_root.ensures.2 c.requires.short, subst (λ (k : ℕ). Accepted (expr_at c.args.tree.now 200 any_expression (6 + 4 * k))) (sym c.number_at-n.ensures) (whole c.args.tree.now c.requires.there).read)
+pub analyze-w-requires-clause-ready : goal.analyze-w-requires-clause-ready
+analyze-w-requires-clause-ready c =
+    root_ready c.begin_root-begun.ensures c.in-Ok.is _ _ _ _ (long_lent c.args.tree.now (buffers c.args.out.now c.args.diagnostics.now c.args.locals.now c.args.frames.now c.args.captures.now c.args.references.now) c.args.limits c.requires.tables_fit) _ _ c.at_root.ensures.1 c.at_root.ensures.2 c.requires.short
+
+pub analyze-w-requires-clause-accepted : goal.analyze-w-requires-clause-accepted
+analyze-w-requires-clause-accepted c =
+    subst (λ (k : ℕ). Accepted (expr_at c.args.tree.now 200 any_expression (6 + 4 * k))) (sym c.number_at-n.ensures) (whole c.args.tree.now c.requires.there).read
 
 pub close_frame-requires : goal.close_frame-requires
 close_frame-requires c = (went_fit c.analyze-w.ensures c.in-To.is).frames_kept

@@ -3,23 +3,22 @@ use Rattle.std.proofs.Common.{sym, ◌∙◌}
 use Rattle.state.specs.Seen.{buffers}
 use Rattle.call_root.proofs.Entry.{fits_lent}
 use Rattle.call_enter.proofs.Laws.{enters_13, enters_14, enters}
-use borrow.Author.Tests.{not-true, not-false}
 use Rattle.call_enter.proofs.enter.Goals as goal
 
 pub returns-then-not-tables_fit : goal.returns-then-not-tables_fit
-returns-then-not-tables_fit c =
+returns-then-not-tables_fit c = λ out diagnostics.
     let s = c.args.tree.now in
     let b = buffers out diagnostics c.args.locals.now c.args.frames.now c.args.captures.now c.args.references.now in
-    enters_13 s b c.args.limits (fits_lent s b c.args.limits ∙ sym c.tables_fit.ensures ∙ not-true _ c.if-not-tables_fit.true)
+    enters_13 s b c.args.limits (fits_lent s b c.args.limits ∙ sym c.tables_fit.ensures ∙ c.if-not-tables_fit.true)
 
 pub returns-then-tree-gt16777216 : goal.returns-then-tree-gt16777216
-returns-then-tree-gt16777216 c =
+returns-then-tree-gt16777216 c = λ out diagnostics.
     let s = c.args.tree.now in
     let b = buffers out diagnostics c.args.locals.now c.args.frames.now c.args.captures.now c.args.references.now in
-    enters_14 s b c.args.limits (fits_lent s b c.args.limits ∙ sym c.tables_fit.ensures ∙ not-false _ c.if-not-tables_fit.false) c.if-tree-gt16777216.true
+    enters_14 s b c.args.limits (fits_lent s b c.args.limits ∙ sym c.tables_fit.ensures ∙ c.if-not-tables_fit.false) c.if-tree-gt16777216.true
 
 pub returns : goal.returns
-returns c =
+returns c = λ out diagnostics.
     let s = c.args.tree.now in
     let b = buffers out diagnostics c.args.locals.now c.args.frames.now c.args.captures.now c.args.references.now in
-    enters s b c.args.limits (fits_lent s b c.args.limits ∙ sym c.tables_fit.ensures ∙ not-false _ c.if-not-tables_fit.false) c.if-tree-gt16777216.false _ c.first_walk.ensures
+    enters s b c.args.limits (fits_lent s b c.args.limits ∙ sym c.tables_fit.ensures ∙ c.if-not-tables_fit.false) c.if-tree-gt16777216.false _ c.first_walk.ensures
