@@ -1,5 +1,5 @@
 -- The one proof of the cycle: the measures, and what each member's module shows. Assumes nothing.
-use Rattle.std.proofs.Common.{[], ap, arith, false, inl, inr, refl, subst, sym, ℕ, ⊎_elim, ◌+◌, ◌-◌, ◌∙◌, ◌≡◌}
+use Rattle.std.proofs.Common.{[], ap, arith, false, refl, subst, sym, ℕ, ⊎_elim, ◌+◌, ◌-◌, ◌∙◌, ◌≡◌}
 use Rattle.rules.specs.Numbers.{code, code_at}
 use Rattle.state.specs.Walks.{place_of, naming_of}
 use Rattle.step_leaf.proofs.Laws.{rank_one, leaf_item, leaf_answered, no_identity, no_constant, no_variable, no_import, rank_falls, rank_more}
