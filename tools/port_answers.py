@@ -36,7 +36,6 @@ import tempfile
 
 WORD = r"[A-Za-z_μ+][\w·'₀-₉-]*"
 TRIVIAL = re.compile(r"\(?\s*(search rules|omega arith|refl|cc)\s*\)?")
-COMMON = "/opt/rattle/rattle/std/proofs/Common.antt"
 
 
 def norm(name):
@@ -48,7 +47,8 @@ def bare(name):
 
 
 def common_names():
-    text = open(COMMON, encoding="utf-8").read()
+    kit = os.path.dirname(subprocess.run(["rt", "doc"], capture_output=True, text=True, check=True).stdout.strip())
+    text = open(os.path.join(kit, "rattle/std/proofs/Common.antt"), encoding="utf-8").read()
     names = set()
     for group in re.findall(r"\{([^}]*)\}", text):
         names.update(it.strip() for it in group.split(","))
