@@ -4,8 +4,8 @@ use Rattle.rules.specs.Numbers.{bit}
 use Rattle.rules.specs.Call as rules
 use Rattle.state.specs.Seen.{Buffers, seen, Fits}
 use Rattle.state.specs.declared.Limits.{Limits}
-use Rattle.state.specs.declared.Step.{Step}
 use Rattle.call_root.specs.Answers.{lent}
+use Rattle.state.specs.Seen.{Step}
 
 -- the rules' run of what was lent
 pub record Ran (r : Step) (tree : List ℕ) (b b' : Buffers) (l : Limits) : Type 0 where

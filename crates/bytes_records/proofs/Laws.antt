@@ -2,18 +2,16 @@
 use Prim.Native.Nat.{ℕ, zero, suc, ◌+◌, ◌-◌, ◌≤◌, ◌<◌}
 use mathlib.Core.Bool.{Bool, true, false}
 use mathlib.Core.List.{List, [], ◌∷◌}
-use mathlib.Core.Path.{◌≡◌, refl, sym, ap, ◌∙◌}
+use mathlib.Core.Path.{◌≡◌, refl, sym, ◌∙◌}
 use native.Mathlib.Nat.{add_assoc}
 use native.Mathlib.Omega.{arith}
-use native.Mathlib.Decide.{dec_le}
 use lib.ListN.{length, take, drop, length-drop}
 use lib.Seq.{get_or-drop, take_all}
 use lib.Dec.{eqb, leb}
-use borrow.Author.Tests.{eqb-true, le-leb, lt-leb, leb-true, leb-false}
+use borrow.Author.Tests.{eqb-true, leb-true, leb-false}
 use Rattle.rules.specs.Outcome.{choose}
-use Rattle.rules.specs.Numbers.{Mark, JT, ID, TV, VA, AR, OX, UN, BI, AS, LO, ER, IM, AP, IX, FN, IF, SC, OB, BV, BF, PA, AT, FH, NA, PT, LS, CS, SU, BL, AC, IY, FV, SH, DG, code, number_at, numbers_at, bit, is_set}
+use Rattle.rules.specs.Numbers.{Mark, JT, ID, TV, VA, AR, OX, UN, BI, AS, LO, ER, IM, AP, IX, FN, IF, SC, OB, BV, BF, PA, AT, FH, NA, PT, LS, CS, SU, BL, AC, IY, FV, SH, DG, code, number_at, numbers_at}
 use Rattle.rules.specs.Records.{size_of}
-use Rattle.rules.proofs.Flags.{set_of}
 use Rattle.bytes_records.specs.Marks.{marks, find_mark, mark_of}
 use Rattle.rules.proofs.After.{chosen}
 
@@ -92,16 +90,6 @@ unfolding size_of
 size_least m = omega arith
 
 -- Tests of the code
-
-pub leb_minus : (a n l : ℕ) → n ≤ l → leb a (l - n) ≡ leb (a + n) l
-leb_minus a n l h = by (dec_le a (l - n))
-  where
-    by : Dec (a ≤ l - n) → leb a (l - n) ≡ leb (a + n) l
-    by (yes le) = le-leb a (l - n) le ∙ sym (le-leb (a + n) l (omega arith))
-    by (no gt) = lt-leb a (l - n) (omega arith) ∙ sym (lt-leb (a + n) l (omega arith))
-
-pub flag_set : (n : ℕ) → (n ≡ 0 → ⊥) → (1 ≡ bit (is_set n)) × (1 ≤ 1)
-flag_set n h = (ap bit (sym (set_of h)), omega arith)
 
 -- what `has_room` answered
 pub room_there : (a n l : ℕ) (r : Bool) → r ≡ leb (a + n) l → r ≡ true → a + n ≤ l

@@ -6,23 +6,14 @@ use mathlib.Core.Option.{Option, none, some}
 use mathlib.Core.Path.{◌≡◌, refl, sym, ◌∙◌}
 use native.Mathlib.Omega.{arith}
 use lib.ListN.{length}
-use lib.Dec.{eqb}
-use borrow.Author.Tests.{le-leb, lt-leb, leb-true}
+use borrow.Author.Tests.{leb-true}
 use Rattle.rules.specs.Outcome.{choose}
-use Rattle.rules.specs.Numbers.{code, code_at, number_at}
+use Rattle.rules.specs.Numbers.{number_at}
 use Rattle.rules.specs.FirstWalk.{front, constant_at, constants_at}
 use Rattle.rules.proofs.After.{both_passed}
 use Rattle.bytes_records.specs.Constants.{is_some}
 
 module _ (s : List ℕ) where
-  pub constant_short : (p : ℕ) → length s < p + 6 → false ≡ constant_at s p
-  unfolding constant_at choose
-  constant_short p h = rw (lt-leb _ _ h)
-
-  pub constant_first : (p : ℕ) {m : ℕ} → p + 6 ≤ length s → m ≡ code_at s p → eqb m 0x5456 ≡ constant_at s p
-  unfolding constant_at choose code
-  constant_first p h e = rw (le-leb _ _ h, e)
-
   constant_room : (p : ℕ) → constant_at s p ≡ true → p + 6 ≤ length s
   unfolding constant_at
   constant_room p e = leb-true _ _ (both_passed _ _ e).0
@@ -35,9 +26,6 @@ module _ (s : List ℕ) where
   pub record Constants (n i at p : ℕ) : Type 0 where
     pub same : is_some (constants_at s (n - i) p) ≡ is_some (constants_at s n at)
     pub turns : i ≤ n
-
-  pub constants_begin : (n at : ℕ) → Constants n 0 at at
-  constants_begin n at = let e : n - 0 ≡ n = omega arith in record { same = rw e; turns = omega arith }
 
   module _ {n i at p : ℕ} (T : Constants n i at p) where
     pub constants_end : n ≤ i → true ≡ is_some (constants_at s n at)
@@ -58,9 +46,6 @@ module _ (s : List ℕ) where
           let e : n - i ≡ suc (n - (i + 1)) = omega arith in
           let g : constant_at s p ≡ true = sym h ∙ f in
           record { same = sym (front_some (number_at s (p + 2)) (constants_at s (n - (i + 1)) (p + 6))) ∙ (rw (e, g) at T.same); turns = omega arith }
-
-      pub constants_room : r ≡ true → p + 6 ≤ length s
-      constants_room f = constant_room p (sym h ∙ f)
 
   pub constants_fit : (n p : ℕ) → is_some (constants_at s n p) ≡ true → p ≤ length s → p + 6 * n ≤ length s
   unfolding constants_at is_some choose

@@ -1,7 +1,7 @@
 -- Where a record that was read ends, and the way past a field's head. Assumes nothing.
 use Prim.Native.Nat.{ℕ, ◌+◌, ◌≤◌}
 use mathlib.Core.List.{List}
-use mathlib.Core.Path.{◌≡◌, refl, sym, ◌∙◌}
+use mathlib.Core.Path.{◌≡◌, refl, sym, ap, ◌∙◌}
 use lib.ListN.{length}
 use borrow.Author.Tests.{leb-true}
 use Rattle.rules.specs.Outcome.{ok, choose}
@@ -9,9 +9,9 @@ use Rattle.rules.specs.Numbers.{code, number_at, numbers_at, is_set, bit}
 use Rattle.rules.specs.Records.{size_of, numbers_of, fields, widths, width}
 use Rattle.rules.specs.FirstWalk.{any_expression, expr_at}
 use Rattle.rules.proofs.After.{After, fine, after_ok, after_need}
+use Rattle.rules.proofs.Flags.{set_of}
 use Rattle.rules.proofs.Outcomes.{same_ok, bind_got}
 use Rattle.bytes_records.specs.Marks.{mark_of, find_mark, marks, children}
-use Rattle.bytes_records.proofs.Laws.{flag_set}
 use Rattle.bytes_skip.specs.Places.{Within, judged_at, over, expected_at, expr_past, exprs_past, below_past, held_past}
 use Rattle.bytes_skip.specs.Behind.{Skipped}
 use Rattle.bytes_skip.proofs.Binding.{over_one, past_ok}
@@ -45,6 +45,7 @@ module _ (s : List ℕ) where
     pub head_computed : (number_at s (p + 2) ≡ 0 → ⊥) → {r : ℕ} → Skipped s (p + 26) r → r ≡ q
     unfolding exprs_past expr_past
     head_computed nz skips =
-        let one : exprs_past s nest 1 (p + 26) ≡ ok q = (rw (← (flag_set _ nz).0) at below_head.1) in
+        let set : 1 ≡ bit (is_set (number_at s (p + 2))) = ap bit (sym (set_of nz)) in
+        let one : exprs_past s nest 1 (p + 26) ≡ ok q = (rw (← set) at below_head.1) in
         let e = past_ok (expr_at s nest any_expression (p + 26)) (sym (over_one (expr_past s nest any_expression) (p + 26)) ∙ one) in
         skips nest any_expression e.what q e.there

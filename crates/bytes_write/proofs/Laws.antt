@@ -1,13 +1,13 @@
--- Laws of runs of bytes written. Assumes nothing.
+-- Laws of runs of bytes and of other items written. Assumes nothing.
 use Prim.Native.Nat.{ℕ, suc, ◌+◌, ◌*◌, ◌-◌, ◌≤◌, ◌<◌}
 use mathlib.Core.List.{List, [], ◌∷◌, ◌++◌, append-nil, append_assoc}
 use mathlib.Core.Path.{◌≡◌, refl, sym, ap, ◌∙◌}
 use native.Mathlib.Nat.{add-zero}
 use native.Mathlib.Numerals.{add-one, towards_suc}
-use native.Mathlib.Decide.{dec_lt}
 use native.Mathlib.Omega.{arith}
-use lib.ListN.{length, get_or, take, set, replicate, length-replicate, replicate-append-replicate, drop_of_length-le}
-use lib.Seq.{take_all, take-suc, length-take-le, sets, sets-eq}
+use lib.ListN.{length, get_or, take, set, replicate}
+use lib.Seq.{take-suc, length-take-le, sets, sets-eq, paste}
+use Rattle.std.proofs.lemmas.List.Edits.{fill_from_more}
 use Rattle.bytes_write.specs.Put.{put}
 use Rattle.rules.specs.Numbers.{number_bytes, numbers_bytes}
 
@@ -41,39 +41,17 @@ numbers_more l at ns i h =
     ∙ sets_append l at (numbers_bytes (take i ns)) (number_bytes (get_or ns i 0))
     ∙ ap (λ bs. sets l at bs) (sym (numbers_bytes_snoc (take i ns) (get_or ns i 0)) ∙ ap numbers_bytes (sym (take-suc ns i 0 h) ∙ ap (λ k. take k ns) (sym (add-one i))))
 
--- Zeros
+-- A value from a place on
 
-abbrev zeros : ℕ → List ℕ
-zeros n = replicate n 0
-
--- one zero more is stored
-pub zeros_more : (l : List ℕ) (from i : ℕ) → from ≤ i → set (sets l from (replicate (i - from) 0)) i 0 ≡ sets l from (replicate (i + 1 - from) 0)
-zeros_more l from i h =
-    let n : i ≡ from + length (zeros (i - from)) = omega (arith, length-replicate {A = ℕ} (i - from) 0) in
-    let m : i - from + 1 ≡ i + 1 - from = omega arith in
-    ap (λ k. set (sets l from (replicate (i - from) 0)) k 0) n
-    ∙ sets_append l from (replicate (i - from) 0) (0 ∷ [])
-    ∙ ap (λ bs. sets l from bs) (replicate-append-replicate (i - from) 1 0 ∙ ap (λ k. replicate k 0) m)
-
--- zeros up to the end
-pub zeros_end : (l : List ℕ) (from i : ℕ) → from ≤ i → length l ≤ i → i - from ≤ length l - from
-    → sets l from (replicate (i - from) 0) ≡ take from l ++ replicate (length l - from) 0
-zeros_end l from i h end most =
-    let k : i - from ≡ length l - from = omega arith in
-    ap (λ n. sets l from (replicate n 0)) k ∙ by (dec_lt (length l) from)
-  where
-    by : Dec (length l < from) → sets l from (replicate (length l - from) 0) ≡ take from l ++ replicate (length l - from) 0
-    by (yes past) =
-        let none : length l - from ≡ 0 = omega arith in
-        let le : length l ≤ from = omega arith in
-        rw none (sym (append-nil (take from l) ∙ take_all from l le))
-    by (no le) =
-        let z : length (zeros (length l - from)) ≡ length l - from = length-replicate (length l - from) 0 in
-        let fit : from + length (zeros (length l - from)) ≤ length l = omega arith in
-        let all : length l ≤ from + length (zeros (length l - from)) = omega arith in
-        sets-eq (zeros (length l - from)) l from fit
-        ∙ ap (λ r. take from l ++ zeros (length l - from) ++ r) (drop_of_length-le l all)
-        ∙ append-nil (take from l ++ zeros (length l - from))
+-- one place more holds it
+pub filled_more : {X : Type 0} (l : List X) (from i : ℕ) (y : X) → from ≤ i → i < length l
+    → set (paste l from (replicate (i - from) y) (i - from)) i y ≡ paste l from (replicate (i + 1 - from) y) (i + 1 - from)
+filled_more l from i y le lt =
+    let here : i ≡ from + (i - from) = omega arith in
+    let more : i - from + 1 ≡ i + 1 - from = omega arith in
+    ap (λ k. set (paste l from (replicate (i - from) y) (i - from)) k y) here
+    ∙ fill_from_more l from (i - from) y (omega arith)
+    ∙ ap (λ n. paste l from (replicate n y) n) more
 
 -- Records
 

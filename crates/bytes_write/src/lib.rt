@@ -1,4 +1,4 @@
-// The packed form written: records put after what was written, runs set to zero.
+// The packed form written: records put after what was written, runs set to one value.
 
 #![tactic(auto)]
 
@@ -12,10 +12,7 @@ fn put_number(out: &mut [u8], at: usize, n: u32)
     requires { at + 4 ≤ length out.old }
     ensures { out.new ≡ sets out.old at (number_bytes n) }
 {
-    out[at] = (n % 256) as u8;
-    out[at + 1] = (n / 256 % 256) as u8;
-    out[at + 2] = (n / 65536 % 256) as u8;
-    out[at + 3] = (n / 16777216 % 256) as u8;
+    out[at..at + 4].copy_from_slice(&n.to_le_bytes());
 }
 
 // Four bytes for each number from an offset on.
@@ -23,58 +20,30 @@ fn put_numbers(out: &mut [u8], at: usize, ns: &[u32])
     requires { at + 4 * length ns.now ≤ length out.old }
     ensures { out.new ≡ sets out.old at (numbers_bytes ns.now) }
 {
-    let mut i = 0;
-    while i < ns.len() {
-        put_number(out, at + 4 * i, ns[i]);
-        i += 1;
+    for (i, n) in ns.iter().enumerate() {
+        put_number(out, at + 4 * i, *n);
     }
 }
 
-// Where the next record goes, or that this one had no room.
-#[derive(Clone, Copy)]
-pub enum Written {
-    To(usize),
-    NoRoom,
-}
-
-// A record after the bytes that were used, or nothing where it has no room.
-pub fn put_record(out: &mut [u8], used: usize, mark: &[u8; 2], ns: &[u32]) -> Written
+// A record after the bytes that were used, and where the next one goes; or nothing where it has no room.
+pub fn put_record(out: &mut [u8], used: usize, mark: &[u8; 2], ns: &[u32]) -> Option<usize>
     ensures { Put result out.old out.new used (get_or mark.now 0 0 ∷ get_or mark.now 1 0 ∷ numbers_bytes ns.now) }
 {
-    if out.len() < used {
-        return Written::NoRoom;
-    }
-    let room = out.len() - used;
-    if room < 2 {
-        return Written::NoRoom;
-    }
-    if (room - 2) / 4 < ns.len() {
-        return Written::NoRoom;
+    let room = out.len().checked_sub(used)?.checked_sub(2)?;
+    if room / 4 < ns.len() {
+        return None;
     }
     out[used] = mark[0];
     out[used + 1] = mark[1];
     put_numbers(out, used + 2, ns);
-    Written::To(used + 2 + 4 * ns.len())
+    Some(used + 2 + 4 * ns.len())
 }
 
-// Zeros from an offset on.
-pub fn zero_bytes(out: &mut [u8], from: usize)
-    ensures { out.new ≡ take from out.old ++ replicate (length out.old - from) 0 }
+// A value from an offset on, to the end. The library's `fill` asks that no clone fails, which isn't known of every `Copy` item.
+pub fn fill_from<T: Copy>(row: &mut [T], from: usize, value: T)
+    ensures { row.new ≡ take from row.old ++ replicate (length row.old - from) value }
 {
-    let mut i = from;
-    while i < out.len() {
-        out[i] = 0;
-        i += 1;
-    }
-}
-
-// Zeros from an offset on.
-pub fn zero_numbers(table: &mut [u32], from: usize)
-    ensures { table.new ≡ take from table.old ++ replicate (length table.old - from) 0 }
-{
-    let mut i = from;
-    while i < table.len() {
-        table[i] = 0;
-        i += 1;
+    for i in from..row.len() {
+        row[i] = value;
     }
 }

@@ -1,13 +1,13 @@
 -- What is known of a call once it was entered, or refused before anything is analysed. Assumes nothing.
-use Rattle.std.specs.Prelude.{ℕ, ◌≤◌, true, List, ◌≡◌, length}
+use Rattle.std.specs.Prelude.{ℕ, ◌≤◌, true, List, ◌≡◌, length, Result, Ok, Err}
 use Rattle.rules.specs.Tree.{Tree}
 use Rattle.rules.specs.FirstWalk.{tree_at}
 use Rattle.rules.specs.Outcome.{ok, refuse}
 use Rattle.rules.specs.Call as rules
 use Rattle.state.specs.Seen.{Buffers}
 use Rattle.state.specs.declared.Limits.{Limits}
-use Rattle.tree.specs.declared.FirstWalk.{FirstWalk}
-use Rattle.tree.specs.declared.FirstWalk.TheVariants as walk_as
+use Rattle.refusal.specs.Meaning.{number_of}
+use Rattle.refusal.specs.declared.Refusal.{Refusal}
 use Rattle.call_root.specs.Answers.{lent}
 
 -- neither 13 nor 14, and the first walk accepts the tree
@@ -18,6 +18,6 @@ pub record Rooted (tree : List ℕ) (b : Buffers) (l : Limits) : Type 0 where
   pub there : tree_at tree ≡ ok root
 
 -- there is a tree to analyse, or the call is refused so
-unfoldable pub Entered : FirstWalk → List ℕ → Buffers → Limits → Type 0
-Entered (walk_as.Past at) tree b l = Rooted tree b l
-Entered (walk_as.Refused number place) tree b l = rules.run (lent tree b l) ≡ refuse number place
+unfoldable pub Entered : Result ℕ Refusal → List ℕ → Buffers → Limits → Type 0
+Entered (Ok end) tree b l = Rooted tree b l
+Entered (Err e) tree b l = rules.run (lent tree b l) ≡ refuse (number_of e.reason) e.place

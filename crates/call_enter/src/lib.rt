@@ -6,8 +6,9 @@ ghost use Rattle.std.specs.Prelude.{◌&&◌, List, ◌≡◌, ℕ, ◌*◌, len
 ghost use Rattle.state.specs.Seen.{buffers};
 ghost use Rattle.call_enter.specs.Answers.{Entered};
 
+use refusal::{Reason, Refusal};
 use state::Limits;
-use tree::{FirstWalk, first_walk};
+use tree::first_walk;
 
 // Whether each table has sixteen numbers for each entry of its limit.
 fn tables_fit(
@@ -21,16 +22,10 @@ fn tables_fit(
         frames.now) && leb (16 * limits.max_captures) (length captures.now) && leb (16 * limits.max_references)
         (length references.now)) }
 {
-    if locals.len() < 16 * (limits.max_locals as usize) {
-        return false;
-    }
-    if frames.len() < 16 * (limits.max_frames as usize) {
-        return false;
-    }
-    if captures.len() < 16 * (limits.max_captures as usize) {
-        return false;
-    }
-    16 * (limits.max_references as usize) <= references.len()
+    16 * (limits.max_locals as usize) <= locals.len()
+        && 16 * (limits.max_frames as usize) <= frames.len()
+        && 16 * (limits.max_captures as usize) <= captures.len()
+        && 16 * (limits.max_references as usize) <= references.len()
 }
 
 // 13, then 14, then the first walk; only a tree that passes is analysed.
@@ -41,15 +36,15 @@ pub fn enter(
     captures: &[u32],
     references: &[u32],
     limits: Limits,
-) -> FirstWalk
+) -> Result<usize, Refusal>
     ensures { (out diagnostics : List ℕ) → Entered result tree.now (buffers out diagnostics locals.now frames.now
         captures.now references.now) limits }
 {
     if !tables_fit(locals, frames, captures, references, limits) {
-        return FirstWalk::Refused(13, 0);
+        return Err(Reason::ShortTable.at(0));
     }
     if 16777216 < tree.len() {
-        return FirstWalk::Refused(14, 0);
+        return Err(Reason::LongTree.at(0));
     }
     first_walk(tree)
 }

@@ -23,7 +23,8 @@ use Rattle.rules.specs.Writing.{open_frame}
 use Rattle.rules.specs.Call.{define_externals, open_root}
 use Rattle.rules.proofs.After.{After, fine, after_ok, after_bind, after_need, after_weaken}
 use Rattle.rules.proofs.Outcomes.{bind_fine, bind_ext, bind_refused}
-use Rattle.value_local.specs.Meaning.{local}
+use Rattle.value_local.specs.Meaning.{local, binding_of, name_of}
+use Rattle.value_local.specs.declared.Binding.TheVariants.{External}
 use Rattle.value_local.specs.declared.LocalDefinition.{LocalDefinition}
 use Rattle.table_rows.specs.Entries.{number}
 use Rattle.resolver.specs.Meaning.{frame_of, frames_of}
@@ -37,14 +38,17 @@ use Rattle.law_steady.specs.Steady.{Sound}
 use Rattle.law_joins.specs.Ready.{Sturdy, Ready}
 use Rattle.state.specs.declared.AnalysisStack.{AnalysisStack}
 use Rattle.state.specs.declared.Limits.{Limits}
-use Rattle.state.specs.declared.Step.{Step}
-use Rattle.state.specs.declared.Step.TheVariants.{Ok, Refused}
 use Rattle.state.proofs.Changing.{frames_to}
 use Rattle.state.proofs.Fitting.{fit_frames}
 use Rattle.step_locals.specs.Answers.{PushedLocal}
 use Rattle.resolver.proofs.Laws.{length_frames}
 use Rattle.call_root.specs.Answers.{LongTables, EmptyStack, DefinedExternals, OpenedRoot, BegunRoot}
 use Rattle.step_write.proofs.Laws.{passes, fails}
+use Rattle.std.specs.Prelude.{Ok, Err, Some}
+use Rattle.refusal.specs.declared.Refusal.{Refusal}
+use Rattle.refusal.specs.Meaning.{refuses}
+use Rattle.refusal.specs.declared.Reason.TheVariants as reason
+use Rattle.state.specs.Seen.{Step}
 
 -- Steps one after another
 
@@ -92,10 +96,12 @@ module _ {s : List ℕ} {limits : Limits} {locals₀ : List ℕ} {st₀ : Analys
   }
 
   module _ {i : ℕ} {locals : List ℕ} {st : AnalysisStack} (inv : Externals s limits locals₀ st₀ n i locals st) where
-    module _ (lt : i < n) {l : LocalDefinition} {name : ℕ} (en : name ≡ number_at s (6 + 4 * i)) (is : local l ≡ external_local i name)
+    module _ (lt : i < n) {l : LocalDefinition} {name : ℕ} (en : name ≡ number_at s (6 + 4 * i))
+        (is : local l ≡ rules_locals.new_local (binding_of (External i)) (name_of (Some name)) (record { number = 0 }) 0 true)
         {r : Step} {locals' : List ℕ} (pushed : PushedLocal r locals locals' limits st 0 l) where
       module _ (out d fs cs rs : List ℕ) where
         went : push_local (limits_of limits out d) 0 (external_local i (number_at s (6 + 4 * i))) (stack (buffers out d locals fs cs rs) st) ≡ seen r (buffers out d locals' fs cs rs)
+        unfolding binding_of name_of no_span
         went =
             let e : local l ≡ external_local i (number_at s (6 + 4 * i)) = is ∙ ap (λ (x : Name). external_local i x) en in
             sym (pushed.same out d fs cs rs ∙ ap (λ (x : rules_locals.LocalDefinition). push_local (limits_of limits out d) 0 x (stack (buffers out d locals fs cs rs) st)) e)
@@ -111,7 +117,7 @@ module _ {s : List ℕ} {limits : Limits} {locals₀ : List ℕ} {st₀ : Analys
         fit = λ out d fs cs rs f. subst (λ (x : Step). Fits limits x (buffers out d locals' fs cs rs)) e (pushed.fit out d fs cs rs (inv.fit out d fs cs rs f));
       }
 
-      pub externals_stop : {why place : ℕ} → r ≡ Refused why place → DefinedExternals (Refused why place) s locals₀ locals' limits st₀ n
+      pub externals_stop : {why : Refusal} → r ≡ Err why → DefinedExternals (Err why) s locals₀ locals' limits st₀ n
       externals_stop e = record {
         same = λ out d fs cs rs.
             sym (bind_refused (λ σ. rest_from (limits_of limits out d) s n (i + 1) σ) (went out d fs cs rs ∙ ap (λ (x : Step). seen x (buffers out d locals' fs cs rs)) e))
@@ -147,7 +153,7 @@ module _ (limits : Limits) (st : AnalysisStack) (n : ℕ) (before : List ℕ) (b
     unfolding open_root open_frame limits_of rules.with_frames
     opens = rw none_there (two_needs (ltb 0 limits.max_frames) _ _ (λ σ. rules.with_frames (new_frame true 0 n ∷ []) σ) refl)
 
-  pub root_refused : limits.max_frames ≡ 0 → OpenedRoot (Refused 7 0) before before limits st n
+  pub root_refused : limits.max_frames ≡ 0 → OpenedRoot (Err (refuses reason.FrameLimit 0)) before before limits st n
   root_refused full = record {
     same = λ out d ls cs rs fit. let le : limits.max_frames ≤ 0 = omega arith in sym (opens out d ls cs rs ∙ fails (ltb 0 limits.max_frames) 7 0 _ (le-ltb 0 limits.max_frames le));
     fit = λ out d ls cs rs fit. tt;
@@ -233,7 +239,7 @@ module _ {st₀ : AnalysisStack} (empty : EmptyStack st₀) {s ls ls' : List ℕ
   defined_from_empty : (out d fs cs rs : List ℕ) → define_externals (limits_of limits out d) 0 (numbers_at s n 6) rules.empty_stack ≡ seen r₁ (buffers out d ls' fs cs rs)
   defined_from_empty out d fs cs rs = sym (defined.same out d fs cs rs ∙ ap (λ (σ : rules.AnalysisStack). define_externals (limits_of limits out d) 0 (numbers_at s n 6) σ) (empty.same (buffers out d ls fs cs rs)))
 
-  pub begin_stopped : {fs : List ℕ} {number place : ℕ} → r₁ ≡ Refused number place → BegunRoot (Refused number place) s ls ls' fs fs limits n
+  pub begin_stopped : {fs : List ℕ} {why : Refusal} → r₁ ≡ Err why → BegunRoot (Err why) s ls ls' fs fs limits n
   begin_stopped {fs = fs} e = record {
     same = λ out d cs rs long. sym (bind_refused (λ σ. open_root (limits_of limits out d) n σ) (defined_from_empty out d fs cs rs ∙ ap (λ (x : Step). seen x (buffers out d ls' fs cs rs)) e));
     fit = λ out d cs rs long. tt;

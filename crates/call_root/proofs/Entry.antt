@@ -22,15 +22,15 @@ use Rattle.state.specs.Seen.{Buffers, buffers, stack, seen, limits_of}
 use Rattle.state.specs.Walks.{walked, Walks}
 use Rattle.state.specs.declared.AnalysisStack.{AnalysisStack}
 use Rattle.state.specs.declared.Limits.{Limits}
-use Rattle.state.specs.declared.Step.{Step}
-use Rattle.state.specs.declared.Step.TheVariants as step_as
-use Rattle.state.specs.declared.Walked.{Walked}
-use Rattle.state.specs.declared.Walked.TheVariants as WalkedAs
 use Rattle.step_frame.specs.Answers.{FrameClosed}
 use Rattle.law_joins.proofs.Joining.{Long, limits_kept}
 use Rattle.call_root.specs.Answers.{report_meaning, ReportsState, LongTables, BegunRoot, Cleared, lent, left}
 use Rattle.call_root.specs.declared.AnalysisReport.{AnalysisReport}
 use Rattle.call_root.proofs.Whole.{TreeThere, root_walked, root_begun_by, whole_from, whole_not_begun, run_13, run_14, run_refused, run_accepted, left_refused, left_accepted}
+use Rattle.std.specs.Prelude.{Ok, Err}
+use Rattle.refusal.specs.declared.Refusal.{Refusal}
+use Rattle.refusal.specs.Meaning.{number_of}
+use Rattle.state.specs.Seen.{Step, Walked}
 
 -- What is lent
 
@@ -87,10 +87,10 @@ module _ (s : List ℕ) (b : Buffers) (l : Limits) where
               begun.same b.out b.diagnostics b.captures b.references (long_lent s b l fit)
               ∙ ap (λ (n : ℕ). define_externals (limits_of l b.out b.diagnostics) 0 (numbers_at s n 6) rules.empty_stack >>= λ σ. open_root (limits_of l b.out b.diagnostics) n σ) en
 
-          pub entry_not_begun : {number place : ℕ} → r₁ ≡ step_as.Refused number place → run (lent s b l) ≡ refuse number place
+          pub entry_not_begun : {why : Refusal} → r₁ ≡ Err why → run (lent s b l) ≡ refuse (number_of why.reason) why.place
           entry_not_begun e = entry_tree ∙ whole_not_begun there.whole_tree _ (sym begun_by ∙ ap (λ (x : Step). seen x (buffers b.out b.diagnostics ls' fs' b.captures b.references)) e)
 
-          module _ {st₁ : AnalysisStack} (e₁ : r₁ ≡ step_as.Ok st₁) where
+          module _ {st₁ : AnalysisStack} (e₁ : r₁ ≡ Ok st₁) where
             entry_begun : run (lent s b l) ≡ root_walked there.whole_tree (limits_of l b.out b.diagnostics) (stack (buffers b.out b.diagnostics ls' fs' b.captures b.references) st₁)
             entry_begun = entry_tree ∙ whole_from there.whole_tree _ (sym begun_by ∙ ap (λ (x : Step). seen x (buffers b.out b.diagnostics ls' fs' b.captures b.references)) e₁)
 
@@ -102,11 +102,11 @@ module _ (s : List ℕ) (b : Buffers) (l : Limits) where
                   let place : at ≡ 6 + 4 * number_at s 2 = ea ∙ ap (λ (n : ℕ). 6 + 4 * n) en in
                   walks.same (limits_of l b.out b.diagnostics) refl ∙ rw (place, unnamed, root) refl
 
-              pub entry_walk_refused : {number place : ℕ} → w ≡ WalkedAs.Refused number place → run (lent s b l) ≡ refuse number place
+              pub entry_walk_refused : {why : Refusal} → w ≡ Err why → run (lent s b l) ≡ refuse (number_of why.reason) why.place
               unfolding ◌>>=◌
               entry_walk_refused e = entry_begun ∙ ap (λ (o : Outcome (rules.AnalysisStack × ℕ)). o >>= λ x. close_frame (limits_of l b.out b.diagnostics) 0 x.0) (sym walk_is ∙ ap (λ (x : Walked). walked x b₂) e)
 
-              module _ {st₂ : AnalysisStack} {q : ℕ} (e₂ : w ≡ WalkedAs.To st₂ q) (long : Long b b₂) where
+              module _ {st₂ : AnalysisStack} {q : ℕ} (e₂ : w ≡ Ok (st₂, q)) (long : Long b b₂) where
                 -- the root's shape
                 module _ {r₃ : Step} {out' captures' : List ℕ} (closed : FrameClosed r₃ b₂.out out' b₂.frames b₂.captures captures' st₂ 0) where
                   pub entry_closes : run (lent s b l) ≡ seen r₃ (buffers out' b₂.diagnostics b₂.locals b₂.frames captures' b₂.references)
@@ -116,10 +116,10 @@ module _ (s : List ℕ) (b : Buffers) (l : Limits) where
                       ∙ ap (λ (L : rules.Limits). close_frame L 0 (stack b₂ st₂)) (limits_kept l long)
                       ∙ sym (closed.same l b₂.diagnostics b₂.locals b₂.references)
 
-                  pub entry_close_refused : {number place : ℕ} → r₃ ≡ step_as.Refused number place → run (lent s b l) ≡ refuse number place
+                  pub entry_close_refused : {why : Refusal} → r₃ ≡ Err why → run (lent s b l) ≡ refuse (number_of why.reason) why.place
                   entry_close_refused e = entry_closes ∙ ap (λ (x : Step). seen x (buffers out' b₂.diagnostics b₂.locals b₂.frames captures' b₂.references)) e
 
-                  pub entry_ends : {st₃ : AnalysisStack} → r₃ ≡ step_as.Ok st₃ → run (lent s b l) ≡ ok (stack (buffers out' b₂.diagnostics b₂.locals b₂.frames captures' b₂.references) st₃)
+                  pub entry_ends : {st₃ : AnalysisStack} → r₃ ≡ Ok st₃ → run (lent s b l) ≡ ok (stack (buffers out' b₂.diagnostics b₂.locals b₂.frames captures' b₂.references) st₃)
                   entry_ends e = entry_closes ∙ ap (λ (x : Step). seen x (buffers out' b₂.diagnostics b₂.locals b₂.frames captures' b₂.references)) e
 
 -- What is left

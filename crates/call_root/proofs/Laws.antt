@@ -87,8 +87,3 @@ report_with st = record {
 pub reports : (st : AnalysisStack) → ReportsState (report_with st) st
 unfolding report_meaning call.report_of stack
 reports st = record { same = λ b o d. rw (length-take-le st.out b.out o, length-take-le st.diagnostics b.diagnostics d) refl }
-
--- Zeros all over
-
-pub zeroed_whole : (before after : List ℕ) → after ≡ take 0 before ++ replicate (length before - 0) 0 → after ≡ replicate (length before) 0
-zeroed_whole before after e = let n : length before - 0 ≡ length before = omega arith in e ∙ ap (λ (k : ℕ). replicate k 0) n

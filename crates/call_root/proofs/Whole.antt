@@ -19,8 +19,9 @@ use Rattle.rules.specs.Call.{Lent, Left, AnalysisReport, define_externals, open_
 use Rattle.rules.specs.Call as rules_call
 use Rattle.rules.proofs.After.{After, fine, after_ok, after_bind, after_need}
 use Rattle.rules.proofs.Outcomes.{same_ok, no_answer, bind_fine, bind_ext, bind_got, bind_assoc, need_true}
-use Rattle.tree.specs.declared.FirstWalk.{FirstWalk}
-use Rattle.tree.specs.declared.FirstWalk.TheVariants as walk_as
+use Rattle.refusal.specs.Meaning.{number_of}
+use Rattle.refusal.specs.declared.Refusal.{Refusal}
+use Rattle.std.specs.Prelude.{Result, Ok, Err}
 use Rattle.tree.specs.Seen.{seen, ended}
 use Rattle.bytes_skip.specs.Places.{judged_at, expected_at}
 use Rattle.tree.proofs.Definition.{got, only_row, record_expected}
@@ -96,12 +97,12 @@ module _ (s : List ℕ) where
   refused_tree (ok t) e = absurd (no_answer e)
   refused_tree (refuse n p) e = cc
 
-  pub tree_there : {r : FirstWalk} → seen r ≡ ended (length s) (tree_at s) → {q : ℕ} → r ≡ walk_as.Past q → TreeThere
+  pub tree_there : {r : Result ℕ Refusal} → seen r ≡ ended (length s) (tree_at s) → {q : ℕ} → r ≡ Ok q → TreeThere
   tree_there h {q} e =
       let a = past_tree (tree_at s) (sym (ap seen e) ∙ h) in
       record { tree = a.what; there = a.there; whole_tree = whole a.there }
 
-  pub tree_refused : {r : FirstWalk} → seen r ≡ ended (length s) (tree_at s) → {number place : ℕ} → r ≡ walk_as.Refused number place → tree_at s ≡ refuse number place
+  pub tree_refused : {r : Result ℕ Refusal} → seen r ≡ ended (length s) (tree_at s) → {why : Refusal} → r ≡ Err why → tree_at s ≡ refuse (number_of why.reason) why.place
   tree_refused h e = refused_tree (tree_at s) (sym (ap seen e) ∙ h)
 
 -- What is run over it

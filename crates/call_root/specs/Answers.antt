@@ -8,8 +8,8 @@ use Rattle.value_depths.specs.Meaning.{result_of}
 use Rattle.state.specs.Seen.{Buffers, buffers, stack, seen, limits_of, Fit, Fits}
 use Rattle.state.specs.declared.AnalysisStack.{AnalysisStack}
 use Rattle.state.specs.declared.Limits.{Limits}
-use Rattle.state.specs.declared.Step.{Step}
 use Rattle.call_root.specs.declared.AnalysisReport.{AnalysisReport}
+use Rattle.state.specs.Seen.{Step}
 
 -- the rules' report that a report is
 unfoldable pub report_meaning : AnalysisReport → call.AnalysisReport

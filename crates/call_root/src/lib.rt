@@ -2,25 +2,21 @@
 
 #![tactic(auto)]
 
-ghost use Rattle.std.specs.Prelude.{true, false, ◌≡◌, ◌+◌, ◌*◌, ◌<◌, ◌≤◌, length};
-ghost use Rattle.std.proofs.Math.Option.{some};
+ghost use Rattle.std.specs.Prelude.{false, ◌≡◌, ◌+◌, ◌*◌, ◌≤◌, length};
 ghost use Rattle.rules.specs.Outcome.{refuse};
-ghost use Rattle.rules.specs.Records.{no_span};
-ghost use Rattle.rules.specs.Tree.{external};
-ghost use Rattle.rules.specs.Locals.{new_local};
 ghost use Rattle.rules.specs.Walk.{at_root};
 ghost use Rattle.rules.specs.Call.{report_of};
-ghost use Rattle.value_local.specs.Meaning.{local};
-ghost use Rattle.state.specs.Seen.{buffers};
+ghost use Rattle.state.specs.Seen.{contents, SameBuffers};
 ghost use Rattle.state.specs.Walks.{place_of};
 ghost use Rattle.call_root.specs.Answers.{report_meaning, ReportsState, EmptyStack, DefinedExternals, OpenedRoot, BegunRoot, Cleared};
 
 use bytes_read::number_at;
-use bytes_write::{zero_bytes, zero_numbers};
-use state::{AnalysisStack, Limits, Place, Step};
+use bytes_write::fill_from;
+use refusal::{Reason, Refusal};
+use state::{AnalysisStack, Lent, Limits, Place, Step};
 use step_locals::push_local;
-use value_depths::{AnalysisResult, NEVER};
-use value_local::{LocalDefinition, LocalId};
+use value_depths::AnalysisResult;
+use value_local::{Binding, LocalDefinition, LocalId};
 
 // What a call answers: 0 or a refusal's number, its place, and where nothing was refused the rest.
 #[derive(Clone, Copy)]
@@ -38,7 +34,6 @@ pub struct AnalysisReport {
 pub fn empty_stack() -> AnalysisStack
     ensures { EmptyStack result }
 {
-    let none = AnalysisResult::no_dependence();
     AnalysisStack {
         locals: 0,
         frames: 0,
@@ -49,7 +44,7 @@ pub fn empty_stack() -> AnalysisStack
         self_used: false,
         super_used: false,
         dollar_used: false,
-        taint: none,
+        taint: AnalysisResult::no_dependence(),
         errored: false,
         rounds: 0,
     }
@@ -71,19 +66,18 @@ pub fn at_root() -> Place
 pub fn refused(number: u32, place: usize) -> AnalysisReport
     ensures { report_meaning result ≡ report_of (refuse number place) }
 {
-    let depths = AnalysisResult {
-        object_dependent_depth: 0,
-        local_dependent_depth: 0,
-        local_dependent_depth_max: 0,
-    };
     AnalysisReport {
-        number: number,
-        place: place,
+        number,
+        place,
         out_length: 0,
         diagnostics_length: 0,
         errored: false,
         rounds: 0,
-        depths: depths,
+        depths: AnalysisResult {
+            object_dependent_depth: 0,
+            local_dependent_depth: 0,
+            local_dependent_depth_max: 0,
+        },
     }
 }
 
@@ -91,7 +85,6 @@ pub fn refused(number: u32, place: usize) -> AnalysisReport
 pub fn accepted(st: AnalysisStack) -> AnalysisReport
     ensures { ReportsState result st }
 {
-    let depths = st.taint;
     AnalysisReport {
         number: 0,
         place: 0,
@@ -99,51 +92,21 @@ pub fn accepted(st: AnalysisStack) -> AnalysisReport
         diagnostics_length: st.diagnostics,
         errored: st.errored,
         rounds: st.rounds,
-        depths: depths,
+        depths: st.taint,
     }
 }
 
 // The tables become zero, and both buffers after what is kept of them.
-pub fn clear(
-    out: &mut [u8],
-    diagnostics: &mut [u8],
-    locals: &mut [u32],
-    frames: &mut [u32],
-    captures: &mut [u32],
-    references: &mut [u32],
-    out_length: usize,
-    diagnostics_length: usize,
-)
-    ensures { Cleared out_length diagnostics_length (buffers out.old diagnostics.old locals.old frames.old
-        captures.old references.old) (buffers out.new diagnostics.new locals.new frames.new captures.new
-        references.new) }
+pub fn clear(lent: &mut Lent<'_>, out_length: usize, diagnostics_length: usize)
+    ensures cleared { Cleared out_length diagnostics_length (contents lent.old) (contents lent.new) }
+    ensures same_buffers { SameBuffers lent.old lent.new }
 {
-    zero_bytes(out, out_length);
-    zero_bytes(diagnostics, diagnostics_length);
-    zero_numbers(locals, 0);
-    zero_numbers(frames, 0);
-    zero_numbers(captures, 0);
-    zero_numbers(references, 0);
-}
-
-// What an external's local is.
-fn new_external(position: u32, name: u32) -> LocalDefinition
-    ensures { local result ≡ new_local (external position) (some name) no_span 0 true }
-{
-    let none = AnalysisResult::no_dependence();
-    LocalDefinition {
-        defined_at_depth: 0,
-        used_at_depth: NEVER,
-        used_by_sibling: false,
-        analysis: none,
-        analyzed: true,
-        scratch_referenced: false,
-        span: 0,
-        has_name: true,
-        name: name,
-        is_record: false,
-        place: position,
-    }
+    fill_from(lent.out, out_length, 0);
+    fill_from(lent.diagnostics, diagnostics_length, 0);
+    fill_from(lent.locals, 0, 0);
+    fill_from(lent.frames, 0, 0);
+    fill_from(lent.captures, 0, 0);
+    fill_from(lent.references, 0, 0);
 }
 
 // The n externals, whose names stand after the tree's head.
@@ -158,22 +121,12 @@ pub fn define_externals(
     ensures { DefinedExternals result tree.now locals.old locals.new limits st n }
 {
     let mut reached = st;
-    let mut i: u32 = 0;
-    while i < n {
+    for i in 0..n {
         let name = number_at(tree, 6 + 4 * (i as usize));
-        let l = new_external(i, name);
-        let step = push_local(locals, limits, reached, 0, l);
-        match step {
-            Step::Ok(after) => {
-                reached = after;
-            }
-            Step::Refused(why, place) => {
-                return Step::Refused(why, place);
-            }
-        }
-        i += 1;
+        let l = LocalDefinition::new(Binding::External(i), Some(name), 0, 0, true);
+        reached = push_local(locals, limits, reached, 0, l)?;
     }
-    Step::Ok(reached)
+    Ok(reached)
 }
 
 // The root's frame, whose locals are the n externals; or refusal 7.
@@ -182,12 +135,13 @@ pub fn open_root(frames: &mut [u32], limits: Limits, st: AnalysisStack, n: u32) 
     ensures { OpenedRoot result frames.old frames.new limits st n }
 {
     if limits.max_frames == 0 {
-        return Step::Refused(7, 0);
+        return Err(Refusal {
+            reason: Reason::FrameLimit,
+            place: 0,
+        });
     }
     resolver::push_frame(frames, 0, true, 0, n, st.captures);
-    let mut after = st;
-    after.frames = 1;
-    Step::Ok(after)
+    Ok(AnalysisStack { frames: 1, ..st })
 }
 
 // The state in which the root's walk begins.
@@ -203,9 +157,6 @@ pub fn begin_root(
     ensures { BegunRoot result tree.now locals.old locals.new frames.old frames.new limits n }
 {
     let st = empty_stack();
-    let defined = define_externals(tree, locals, limits, st, n);
-    match defined {
-        Step::Ok(after) => open_root(frames, limits, after, n),
-        Step::Refused(number, place) => Step::Refused(number, place),
-    }
+    let after = define_externals(tree, locals, limits, st, n)?;
+    open_root(frames, limits, after, n)
 }

@@ -7,18 +7,23 @@ use mathlib.Core.List.{List, [], ◌∷◌, ◌++◌}
 use Prim.Native.Nat.{ℕ, zero, suc, ◌+◌, ◌-◌, ◌≤◌, ◌<◌}
 use native.Mathlib.Omega.{arith}
 use native.Mathlib.Numerals.{add-one}
+use native.Mathlib.Nat.{add-zero, add-suc}
 use native.Mathlib.Decide.{dec_lt}
 use lib.ListN.{length, length-append}
 use lib.Dec.{eqb}
 use borrow.Author.Tests.{eq-eqb, ne_eqb}
+use Rattle.std.specs.List.{filter, range_with_len}
 use Rattle.rules.specs.Outcome.{choose}
 use Rattle.rules.specs.Frames as rules
 use Rattle.table_captures.specs.Meaning.{slot, Logged, logged, logged_at, log_of, log_at, captures_of}
 use Rattle.table_captures.specs.declared.Capture.{Capture}
+use Rattle.table_captures.specs.declared.LSlot.{LSlot}
 use Rattle.table_captures.specs.declared.CaptureSlot.{CaptureSlot}
 use Rattle.table_captures.proofs.Laws.{eq_or_not, log_at_is, captures_start, captures_step, captures_mine, captures_other, captures_more, length_mine}
-use Rattle.find_capture.specs.Answers.{Searched}
-use Rattle.find_capture.specs.declared.FoundCapture.TheVariants.{At, Nothing}
+use Rattle.find_capture.specs.Answers.{Searched, Follows}
+use Rattle.std.specs.Prelude.{Ok, Err, MatchOption, IsSomeAnd}
+use Rattle.std.specs.declared.option.Option as rust
+use Rattle.std.specs.declared.option.Option.TheVariants.{Some, None}
 
 pub captures_few : (o n : ℕ) (t : List ℕ) → length (captures_of o n t) ≤ n
 captures_few o zero t = rw (captures_start o t) (omega arith)
@@ -76,13 +81,13 @@ pub record Passed (captures : List ℕ) (owner id k i : ℕ) : Type 0 where
   pub counted : k ≡ length (captures_of owner i captures)
   pub missing : rules.capture_of id 0 (captures_of owner i captures) ≡ none
 
-pub counted_none : (captures : List ℕ) (owner i : ℕ) → captures_of owner i captures ≡ [] → 0 ≡ length (captures_of owner i captures)
+counted_none : (captures : List ℕ) (owner i : ℕ) → captures_of owner i captures ≡ [] → 0 ≡ length (captures_of owner i captures)
 counted_none captures owner i e = rw e
 
-pub counted_other : (captures : List ℕ) (owner k i : ℕ) → k ≡ length (captures_of owner i captures) → ((logged_at captures i).owner ≡ owner → ⊥) → k ≡ length (captures_of owner (i + 1) captures)
+counted_other : (captures : List ℕ) (owner k i : ℕ) → k ≡ length (captures_of owner i captures) → ((logged_at captures i).owner ≡ owner → ⊥) → k ≡ length (captures_of owner (i + 1) captures)
 counted_other captures owner k i h ne = rw add-one (h ∙ ap length (sym (captures_other owner i captures ne)))
 
-pub counted_mine : (captures : List ℕ) (owner k i : ℕ) → k ≡ length (captures_of owner i captures) → (logged_at captures i).owner ≡ owner → k + 1 ≡ length (captures_of owner (i + 1) captures)
+counted_mine : (captures : List ℕ) (owner k i : ℕ) → k ≡ length (captures_of owner i captures) → (logged_at captures i).owner ≡ owner → k + 1 ≡ length (captures_of owner (i + 1) captures)
 counted_mine captures owner k i h e = rw (add-one i) (omega (arith, h, length_mine owner i captures e))
 
 pub passed_none : (captures : List ℕ) (owner id i : ℕ) → captures_of owner i captures ≡ [] → Passed captures owner id 0 i
@@ -112,20 +117,48 @@ passed_hit captures owner id k i count p lt e same = (
 )
 
 pub searched_hit : (captures : List ℕ) (owner id count : ℕ) (k : CaptureSlot)
-    → (rules.capture_of id 0 (captures_of owner count captures) ≡ some k.0) × (k.0 < length (captures_of owner count captures)) → Searched (At k) captures owner count id
+    → (rules.capture_of id 0 (captures_of owner count captures) ≡ some k.0) × (k.0 < length (captures_of owner count captures)) → Searched (Ok k) captures owner count id
 searched_hit captures owner id count k (found, counts) = record { same = sym found; counts = counts }
 
-pub passed_all : (captures : List ℕ) (owner id k i count : ℕ) → Passed captures owner id k i → i ≡ count → Searched (Nothing k) captures owner count id
+pub passed_all : (captures : List ℕ) (owner id k i count : ℕ) → Passed captures owner id k i → i ≡ count → Searched (Err k) captures owner count id
 passed_all captures owner id k i count p e = rw (sym e) record { same = sym p.missing; counts = p.counted }
 
--- one capture more, at the entry i
-pub captures_next : (o at i : ℕ) (t : List ℕ) (c : Capture) → captures_of o i t ≡ captures_of o at t → (logged_at t i).owner ≡ o → ((n : ℕ) → i < n → logged c ≡ log_at (log_of n t) i)
+-- from one entry to another: none of the owner's is passed
+captures_still : (o at n i : ℕ) (t : List ℕ) → at + n ≡ i → ((k : ℕ) → at ≤ k → k < i → (logged_at t k).owner ≡ o → ⊥) → captures_of o i t ≡ captures_of o at t
+captures_still o at zero i t e others = let same : i ≡ at = omega arith in rw same refl
+captures_still o at (suc n) i t e others =
+    rw (sym e, add-suc at n) (captures_other o (at + n) t (others (at + n) (omega arith) (omega arith)) ∙ captures_still o at n (at + n) t refl (λ k low high. others k low (omega arith)))
+
+-- and then one, as the entry i is read
+captures_next : (o at i : ℕ) (t : List ℕ) (c : Capture) → at ≤ i → ((k : ℕ) → at ≤ k → k < i → (logged_at t k).owner ≡ o → ⊥) → (logged_at t i).owner ≡ o
+    → ((n : ℕ) → i < n → logged c ≡ log_at (log_of n t) i)
     → captures_of o (i + 1) t ≡ captures_of o at t ++ (record { target = (logged_at t (i + 1 - 1)).capture.target; source = slot c.source } ∷ [])
 unfolding logged
-captures_next o at i t c e mine read =
+captures_next o at i t c le others mine read =
     let back : i + 1 - 1 ≡ i = omega arith in
     let source : (logged_at t i).capture.source ≡ slot c.source = ap (λ (l : Logged). l.capture.source) (sym (read (suc i) (omega arith) ∙ log_at_is (suc i) i t (omega arith))) in
-    rw (back, add-one i, captures_mine o i t mine, e, sym source)
+    rw (back, add-one i, captures_mine o i t mine, captures_still o at (i - at) i t (omega arith) others, sym source)
 
-pub captures_pass : (o at i : ℕ) (t : List ℕ) → captures_of o i t ≡ captures_of o at t → ((logged_at t i).owner ≡ o → ⊥) → captures_of o (i + 1) t ≡ captures_of o at t
-captures_pass o at i t e ne = rw (add-one i, captures_other o i t ne) e
+-- the entry that a search from `at` on ended at, with the owner's first capture there, or none was found
+pub next_follows : (r : rust.Option (ℕ × LSlot)) (o at count : ℕ) (t : List ℕ) (found : rust.Option ℕ) {P : ℕ → ℕ × LSlot → Type 0} → at ≤ count
+    → MatchOption found ((k : ℕ) → at ≤ k → k < count → (logged_at t k).owner ≡ o → ⊥)
+    (λ i. (at ≤ i) × (i < count) × ((logged_at t i).owner ≡ o) × ((k : ℕ) → at ≤ k → k < i → (logged_at t k).owner ≡ o → ⊥))
+    → MatchOption found (r ≡ None) (λ i. IsSomeAnd r (P i))
+    → ((i : ℕ) (next : ℕ × LSlot) → P i next → (c : Capture) × ((n : ℕ) → i < n → logged c ≡ log_at (log_of n t) i) × (next ≡ (i + 1, c.source))) → Follows r t o at count
+next_follows r o at count t None within others is reads = rw is (captures_still o at (count - at) count t (omega arith) others)
+next_follows None o at count t (Some i) within (low, high, mine, others) none_there reads = absurd none_there
+next_follows (Some next) o at count t (Some i) within (low, high, mine, others) answer reads =
+    let read = reads i next answer in
+    rw read.2 (omega arith, omega arith, captures_next o at i t read.0 low others mine read.1)
+
+-- the owner's among n entries from one on
+pub captures_counted : (o from n : ℕ) (t : List ℕ)
+    → length (captures_of o (from + n) t) ≡ length (captures_of o from t) + length (filter (λ i. eqb (logged_at t i).owner o) (range_with_len from n))
+captures_counted o from zero t = rw (add-zero from) (omega arith)
+captures_counted o from (suc n) t =
+    let next : from + suc n ≡ from + 1 + n = omega arith in
+    let after : length (captures_of o (from + suc n) t) ≡ length (captures_of o (suc from) t) + length (filter (λ i. eqb (logged_at t i).owner o) (range_with_len (from + 1) n)) =
+    rw (next, ← add-one from) (captures_counted o (from + 1) n t) in
+    ⊎_elim
+    (λ e. rw (eq-eqb (logged_at t from).owner o e) (omega (arith, after, length_mine o from t e)))
+    (λ ne. rw (ne_eqb (logged_at t from).owner o ne) (omega (arith, after, ap length (captures_other o from t ne)))) (eq_or_not (logged_at t from).owner o)

@@ -1,21 +1,18 @@
 -- Laws of the search for a name. Assumes nothing.
 use Prim.Native.Nat.{ℕ, zero, suc, ◌+◌, ◌*◌, ◌-◌, ◌≤◌, ◌<◌}
-use mathlib.Core.Bool.{Bool, true, false, not, ◌&&◌}
+use mathlib.Core.Bool.{Bool, true, false}
 use mathlib.Core.List.{List}
 use mathlib.Core.Option.{some}
 use mathlib.Core.Path.{◌≡◌, refl, sym, ap, ◌∙◌}
 use native.Mathlib.Omega.{arith}
 use lib.ListN.{get_or}
-use lib.Dec.{eqb}
-use borrow.Author.Tests.{eq-eqb, ne_eqb, eqb-false, not-true}
+use borrow.Author.Tests.{eq-eqb, ne_eqb}
 use Rattle.rules.specs.Outcome.{choose, given}
 use Rattle.rules.specs.Numbers.{is_set, same_name}
 use Rattle.rules.specs.Locals.{has_name, newest}
 use Rattle.table_rows.specs.Rows.{row}
 use Rattle.table_rows.proofs.Laws.{row_at}
-use Rattle.value_local.specs.Meaning.{named}
-use Rattle.table_locals.specs.Meaning.{local_of_row, locals_of}
-use Rattle.table_locals.proofs.Fours.{four_tests}
+use Rattle.table_locals.specs.Meaning.{named, local_of_row, locals_of}
 use Rattle.table_locals.proofs.Laws.{locals_at}
 use Rattle.rules.proofs.Flags.{set_of}
 use Rattle.find_name.specs.Answers.{NoneNamed}
@@ -88,14 +85,6 @@ module _ {t : List ℕ} {name first n left : ℕ} (at : Searching t name first n
   found_here set e total h = step total h ∙ rw (this_name name (next first left) t set e)
 
 -- Four entries at a time
-
--- their names are read and tested
-pub four_others : (t : List ℕ) (name from : ℕ)
-    → ((not (eqb (get_or t (16 * from + 10) 0) name) && not (eqb (get_or t (16 * from + 10 + 16) 0) name)) && (not (eqb (get_or t (16 * from + 10 + 32) 0) name) && not (eqb (get_or t (16 * from + 10 + 48) 0) name))) ≡ true
-    → NoneNamed t name from
-four_others t name from tests = record {
-  others = λ k after before. eqb-false (get_or t (16 * k + 10) 0) name (not-true (eqb (get_or t (16 * k + 10) 0) name) (four_tests (λ j. not (eqb (get_or t j 0) name)) from 10 tests k after before));
-}
 
 module _ {t : List ℕ} {name first n left : ℕ} (begun : Searching t name first n left) where
   -- so many entries with other names

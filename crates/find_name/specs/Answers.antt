@@ -1,13 +1,13 @@
 -- What a search answers, and what a look at four names tells. Assumes nothing.
 use Rattle.std.specs.Prelude.{ℕ, ◌+◌, ◌*◌, ◌≤◌, ◌<◌, List, ◌≡◌, get_or}
-use Rattle.std.proofs.Math.Option.{Option, none, some}
-use Rattle.find_name.specs.declared.Found.{Found}
-use Rattle.find_name.specs.declared.Found.TheVariants.{At, Nothing}
+use Rattle.std.specs.Prelude.{Option, Some, None}
+use Rattle.std.proofs.Math.Option as math
+use Rattle.value_local.specs.declared.LocalId.{LocalId}
 
 -- where a search found it
-unfoldable pub found : Found → Option ℕ
-found (At id) = some id.0
-found Nothing = none
+unfoldable pub found : Option LocalId → math.Option ℕ
+found (Some id) = math.some id.0
+found None = math.none
 
 -- none of the four entries from `from` on has the name
 pub record NoneNamed (locals : List ℕ) (name from : ℕ) : Type 0 where

@@ -9,18 +9,12 @@ ghost use Rattle.find_name.specs.Answers.{NoneNamed, found};
 
 use value_local::LocalId;
 
-#[derive(Clone, Copy)]
-pub enum Found {
-    At(LocalId),
-    Nothing,
-}
-
 // Where an entry has the numbers that are read alone: a search looks at one or two numbers of each entry.
 const HAS_NAME: usize = 9;
 
 const NAME: usize = 10;
 
-// Whether none of the four entries from `from` on has the name.
+// Whether none of the four entries from `from` on has the name. Four reads in a row: one at a time misses the speed bar.
 fn none_named(locals: &[u32], name: u32, from: usize) -> bool
     requires { 16 * from + 64 ≤ length locals.now }
     ensures { result ≡ true → NoneNamed locals.now name from }
@@ -40,31 +34,23 @@ fn left_to_search(locals: &[u32], name: u32, first: usize, n: usize) -> usize
         newest name (locals_of total locals.now) first result) }
 {
     let mut left = n;
-    while 4 <= left {
-        let rest = left - 4;
-        if none_named(locals, name, first + rest) {
-            left = rest;
-        } else {
-            return left;
-        }
+    while 4 <= left && none_named(locals, name, first + (left - 4)) {
+        left -= 4;
     }
     left
 }
 
 // The newest of the n locals from `first` on that has the name.
-pub fn newest(locals: &[u32], name: u32, first: usize, n: usize) -> Found
+pub fn newest(locals: &[u32], name: u32, first: usize, n: usize) -> Option<LocalId>
     requires { (16 * (first + n) ≤ length locals.now) × (first + n ≤ 4294967296) }
     ensures { (total : ℕ) → first + n ≤ total → found result ≡ newest name (locals_of total locals.now) first n }
 {
-    let mut left = left_to_search(locals, name, first, n);
-    while 0 < left {
-        left -= 1;
-        let at = 16 * (first + left);
-        if locals[at + NAME] == name {
-            if locals[at + HAS_NAME] != 0 {
-                return Found::At(LocalId((first + left) as u32));
-            }
+    let left = left_to_search(locals, name, first, n);
+    for k in (0..left).rev() {
+        let at = 16 * (first + k);
+        if locals[at + NAME] == name && locals[at + HAS_NAME] != 0 {
+            return Some(LocalId((first + k) as u32));
         }
     }
-    Found::Nothing
+    None
 }

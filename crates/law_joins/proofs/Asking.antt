@@ -1,10 +1,12 @@
 -- What the steps ask of a walker that calls them, from what the walker itself was asked. Assumes nothing.
 use Prim.Native.Nat.{ℕ, zero, suc, ◌+◌, ◌<◌, ◌≤◌}
 use native.Mathlib.Omega.{arith}
-use mathlib.Core.Bool.{Bool, true, false}
+use mathlib.Core.Bool.{Bool, not}
 use mathlib.Core.List.{List}
 use mathlib.Core.Path.{◌≡◌, refl, sym, ◌∙◌, ap, subst}
 use lib.ListN.{length, length-take}
+use lib.Dec.{eqb}
+use borrow.Author.Tests.{ne_eqb}
 use Rattle.rules.specs.Numbers.{number_at, is_set}
 use Rattle.rules.specs.State as rules
 use Rattle.rules.specs.Writing.{open_frame}
@@ -19,11 +21,11 @@ use Rattle.state.specs.Walks.{place_of, id_if, Stands, Steps}
 use Rattle.state.specs.declared.AnalysisStack.{AnalysisStack}
 use Rattle.state.specs.declared.Limits.{Limits}
 use Rattle.state.specs.declared.Place.{Place}
-use Rattle.state.specs.declared.Step.{Step}
 use Rattle.step_frame.specs.Answers.{FrameOpened}
 use Rattle.step_declare.specs.Answers.{Fitting}
 use Rattle.step_judge.specs.Answers.{Settleable}
 use Rattle.law_joins.specs.Ready.{Ready}
+use Rattle.state.specs.Seen.{Step}
 
 -- an opened frame as a step
 pub opened : {r : Step} {l : Limits} {out diagnostics locals frames frames' captures references : List ℕ} {st : AnalysisStack} {place : ℕ} {is_defining : Bool}
@@ -72,22 +74,18 @@ stands {b = b} {st = st} {h = h} r = record {
 pub fitting : {l : Limits} {out diagnostics locals frames captures references : List ℕ} {st : AnalysisStack} → Fit l (buffers out diagnostics locals frames captures references) st → Fitting l diagnostics locals frames st
 fitting {out = out} {captures = captures} {references = references} f = record { out = out; captures = captures; references = references; fit = f }
 
--- whether the first parameter has a default
+-- whether the first parameter has a default, as the code tells it
 
-pub defaults_none : (s : List ℕ) (n p : ℕ) → n ≡ 0 → false ≡ first_defaults s n p
+pub defaults_none : (s : List ℕ) (n p : ℕ) → n ≡ 0 → not (eqb n 0) ≡ first_defaults s n p
 unfolding first_defaults
-defaults_none s n p e = sym (ap (λ (n : ℕ). first_defaults s n p) e)
+defaults_none s n p e = rw e refl
 
-pub defaults_unset : (s : List ℕ) (n p : ℕ) → number_at s (p + 10) ≡ 0 → false ≡ first_defaults s n p
-unfolding first_defaults is_set
-defaults_unset s zero p e = refl
-defaults_unset s (suc n) p e = sym (ap is_set e)
+told_set : (k : ℕ) → not (eqb k 0) ≡ is_set k
+unfolding is_set
+told_set zero = refl
+told_set (suc k) = rw (ne_eqb (suc k) 0 (λ z. omega arith)) refl
 
-pub defaults_set : (s : List ℕ) (n p : ℕ) → (n ≡ 0 → ⊥) → (number_at s (p + 10) ≡ 0 → ⊥) → true ≡ first_defaults s n p
-unfolding first_defaults is_set
-defaults_set s zero p more set = absurd (more refl)
-defaults_set s (suc n) p more set = is_so (number_at s (p + 10)) set
-  where
-    is_so : (k : ℕ) → (k ≡ 0 → ⊥) → true ≡ is_set k
-    is_so zero no_zero = absurd (no_zero refl)
-    is_so (suc k) no_zero = refl
+pub defaults_first : (s : List ℕ) (n p : ℕ) {set : ℕ} → (n ≡ 0 → ⊥) → set ≡ number_at s (p + 10) → not (eqb set 0) ≡ first_defaults s n p
+unfolding first_defaults
+defaults_first s zero p some e = absurd (some refl)
+defaults_first s (suc n) p {set = set} some e = told_set set ∙ ap is_set e

@@ -25,15 +25,11 @@ use Rattle.state.specs.Walks.{place_of, Walks, WalksSpecs, Steps, Becomes}
 use Rattle.state.specs.declared.AnalysisStack.{AnalysisStack}
 use Rattle.state.specs.declared.Limits.{Limits}
 use Rattle.state.specs.declared.Place.{Place}
-use Rattle.state.specs.declared.Step.{Step}
-use Rattle.state.specs.declared.Step.TheVariants as step_as
-use Rattle.state.specs.declared.Walked.{Walked}
-use Rattle.state.specs.declared.Walked.TheVariants as WalkedAs
-use Rattle.state.specs.declared.Specs.{Specs}
-use Rattle.state.specs.declared.Specs.TheVariants as specs_as
 use Rattle.law_joins.specs.Ready.{Within, Ready, fields_steps}
 use Rattle.law_joins.proofs.Joining.{stepped, stepped_fit, went, went_fit, kept_on, kept_fit}
 use Rattle.law_joins.proofs.Readiness.{alike_taint, within_more, opened_alike, begun_local_alike, begun_function_alike, begun_object_alike, ready_passed, ready_specs, ready_alike, ready_on, ready_body, Specced, specced}
+use Rattle.std.specs.Prelude.{Ok}
+use Rattle.state.specs.Seen.{Step, Walked, Specs}
 
 some_same : {m n : ℕ} → some m ≡ some n → m ≡ n
 unfolding given
@@ -52,30 +48,30 @@ module _ {l : Limits} {s : List ℕ} {nest : ℕ} {h : Place} {b b₁ : Buffers}
   -- Walks
 
   module _ {p : ℕ} (ready : Ready l b st s p nest h) {r : Walked} {st₁ : AnalysisStack} {q : ℕ} where
-    pub ready_expr : (levels : ℕ) (ν : walk.Naming) (at : walk.Place) → Walks r l b b₁ st (λ L σ. run_expr s L levels p ν at σ) → r ≡ WalkedAs.To st₁ q → Ready l b₁ st₁ s q nest h
+    pub ready_expr : (levels : ℕ) (ν : walk.Naming) (at : walk.Place) → Walks r l b b₁ st (λ L σ. run_expr s L levels p ν at σ) → r ≡ Ok (st₁, q) → Ready l b₁ st₁ s q nest h
     ready_expr levels ν at w e = ready_passed ready (after_ok (passed_expr s _ levels p ν at (stack b st)) (went w e _ refl)) (went_fit w e)
 
-    pub ready_assertions : (levels n : ℕ) (at : walk.Place) → Walks r l b b₁ st (λ L σ. run_assertions s L levels n p at σ) → r ≡ WalkedAs.To st₁ q → Ready l b₁ st₁ s q nest h
+    pub ready_assertions : (levels n : ℕ) (at : walk.Place) → Walks r l b b₁ st (λ L σ. run_assertions s L levels n p at σ) → r ≡ Ok (st₁, q) → Ready l b₁ st₁ s q nest h
     ready_assertions levels n at w e = ready_passed ready (after_ok (passed_assertions s _ levels n p at (stack b st)) (went w e _ refl)) (went_fit w e)
 
   -- Frames
 
-  pub ready_opened : {p : ℕ} (place : ℕ) (is_defining : Bool) → Ready l b st s p nest h → {r : Step} {st₁ : AnalysisStack} → Steps r l b b₁ st (λ L σ. open_frame L place is_defining σ) → r ≡ step_as.Ok st₁ → Ready l b₁ st₁ s p nest h
+  pub ready_opened : {p : ℕ} (place : ℕ) (is_defining : Bool) → Ready l b st s p nest h → {r : Step} {st₁ : AnalysisStack} → Steps r l b b₁ st (λ L σ. open_frame L place is_defining σ) → r ≡ Ok st₁ → Ready l b₁ st₁ s p nest h
   ready_opened place is_defining ready w e = ready_alike ready (opened_alike _ place is_defining (stepped w e _ refl)) (stepped_fit w e)
 
-  pub ready_value : {p : ℕ} (place : ℕ) → Ready l b st s p nest h → {r : Step} {st₁ : AnalysisStack} → Steps r l b b₁ st (λ L σ. opened_value L place σ) → r ≡ step_as.Ok st₁ → Ready l b₁ st₁ s p nest h
+  pub ready_value : {p : ℕ} (place : ℕ) → Ready l b st s p nest h → {r : Step} {st₁ : AnalysisStack} → Steps r l b b₁ st (λ L σ. opened_value L place σ) → r ≡ Ok st₁ → Ready l b₁ st₁ s p nest h
   unfolding opened_value
   ready_value place ready w e = ready_alike ready (alike_taint no_dependence (stack b st) (opened_alike _ place false (stepped w e _ refl))) (stepped_fit w e)
 
-  pub ready_local : {p : ℕ} (levels n depth : ℕ) → Ready l b st s p nest h → {r : Walked} {st₁ : AnalysisStack} {q : ℕ} → Walks r l b b₁ st (λ L σ. begun_local L s levels n p depth σ) → r ≡ WalkedAs.To st₁ q → Ready l b₁ st₁ s p nest h
+  pub ready_local : {p : ℕ} (levels n depth : ℕ) → Ready l b st s p nest h → {r : Walked} {st₁ : AnalysisStack} {q : ℕ} → Walks r l b b₁ st (λ L σ. begun_local L s levels n p depth σ) → r ≡ Ok (st₁, q) → Ready l b₁ st₁ s p nest h
   ready_local {p = p} levels n depth ready w e = ready_alike ready (begun_local_alike s _ levels n p depth (went w e _ refl)) (went_fit w e)
 
-  pub ready_function : {p : ℕ} (levels n depth : ℕ) → Ready l b st s p nest h → {r : Walked} {st₁ : AnalysisStack} {q : ℕ} → Walks r l b b₁ st (λ L σ. begun_function L s levels n p depth σ) → r ≡ WalkedAs.To st₁ q → Ready l b₁ st₁ s p nest h
+  pub ready_function : {p : ℕ} (levels n depth : ℕ) → Ready l b st s p nest h → {r : Walked} {st₁ : AnalysisStack} {q : ℕ} → Walks r l b b₁ st (λ L σ. begun_function L s levels n p depth σ) → r ≡ Ok (st₁, q) → Ready l b₁ st₁ s p nest h
   ready_function {p = p} levels n depth ready w e = ready_alike ready (begun_function_alike s _ levels n p depth (went w e _ refl)) (went_fit w e)
 
   -- inside an object, whose `this` is the local that came first
   pub ready_object : {at : ℕ} (levels n p binds : ℕ) {i : Place} → place_of i ≡ walk.in_object (length (stack b st).locals) (place_of h) → i.depth ≡ h.depth → Ready l b st s at nest h → {r : Walked} {st₁ : AnalysisStack} {q : ℕ}
-      → Walks r l b b₁ st (λ L σ. begun_object L s levels n p binds (place_of h) σ) → r ≡ WalkedAs.To st₁ q → Ready l b₁ st₁ s at nest i
+      → Walks r l b b₁ st (λ L σ. begun_object L s levels n p binds (place_of h) σ) → r ≡ Ok (st₁, q) → Ready l b₁ st₁ s at nest i
   ready_object levels n p binds ei ed ready {st₁ = st₁} w e =
       let a = begun_object_alike s _ levels n p binds (place_of h) (went w e _ refl) in
       let same = ready_alike ready a.alike (went_fit w e) in
@@ -107,10 +103,10 @@ module _ {l : Limits} {s : List ℕ} {nest : ℕ} {h : Place} {b₁ b₂ : Buffe
   framed : PassedSpecs n p q 0 kept (stack b₁ st₁) (stack b₂ st₂) → Fit l b₂ st₂ → Framed l s nest h n kept q before b₂ st₂
   framed k f = record { ready = ready_specs (ready_on (omega arith) (omega arith) begun) k f; specs = specced behind begun.sturdy k; before_there = omega (arith, more_there k.more_references, same) }
 
-  pub framed_binds : (levels base : ℕ) → {r : Specs} → WalksSpecs r l b₁ b₂ st₁ (λ L σ. run_binds s L levels n p base 0 (place_of h) σ) → r ≡ specs_as.To st₂ q kept → Framed l s nest h n kept q before b₂ st₂
+  pub framed_binds : (levels base : ℕ) → {r : Specs} → WalksSpecs r l b₁ b₂ st₁ (λ L σ. run_binds s L levels n p base 0 (place_of h) σ) → r ≡ Ok (st₂, q, kept) → Framed l s nest h n kept q before b₂ st₂
   framed_binds levels base w e = framed (after_ok (passed_binds s _ levels n p base 0 (place_of h) (stack b₁ st₁)) (kept_on w e _ refl)) (kept_fit w e)
 
-  pub framed_params : (levels : ℕ) → {r : Specs} → WalksSpecs r l b₁ b₂ st₁ (λ L σ. run_params s L levels n p 0 (place_of h) σ) → r ≡ specs_as.To st₂ q kept → Framed l s nest h n kept q before b₂ st₂
+  pub framed_params : (levels : ℕ) → {r : Specs} → WalksSpecs r l b₁ b₂ st₁ (λ L σ. run_params s L levels n p 0 (place_of h) σ) → r ≡ Ok (st₂, q, kept) → Framed l s nest h n kept q before b₂ st₂
   framed_params levels w e = framed (after_ok (passed_params s _ levels n p 0 (place_of h) (stack b₁ st₁)) (kept_on w e _ refl)) (kept_fit w e)
 
 -- the body, after the first loop
@@ -143,7 +139,7 @@ passed_fields s L levels object p h σ = after_bind _ (passed_assertions s L lev
 
 -- an object's heads are after its record of 14 bytes
 pub ready_heads : {l : Limits} {s : List ℕ} {nest p : ℕ} {h : Place} {b b₁ : Buffers} {st : AnalysisStack} → Ready l b st s p nest h → (levels n : ℕ) (at : walk.Place) {r : Walked} {st₁ : AnalysisStack} {q : ℕ}
-    → Walks r l b b₁ st (λ L σ. run_heads s L levels n (p + 14) at σ) → r ≡ WalkedAs.To st₁ q → Ready l b₁ st₁ s (q - 14) nest h
+    → Walks r l b b₁ st (λ L σ. run_heads s L levels n (p + 14) at σ) → r ≡ Ok (st₁, q) → Ready l b₁ st₁ s (q - 14) nest h
 ready_heads {s = s} {p = p} {b = b} {st = st} ready levels n at w e =
     let k = after_ok (passed_heads s _ levels n (p + 14) at (stack b st)) (went w e _ refl) in
     record {
@@ -155,7 +151,7 @@ ready_heads {s = s} {p = p} {b = b} {st = st} ready levels n at w e =
 
 -- a value's output comes after what was there
 pub longer_value : (s : List ℕ) (levels p at : ℕ) (ν : walk.Naming) (h : walk.Place) {l : Limits} {b b₁ b₂ : Buffers} {st st₁ st₂ : AnalysisStack} {r : Step} {r' : Walked} {q : ℕ} → Fit l b st
-    → Steps r l b b₁ st (λ L σ. opened_value L at σ) → r ≡ step_as.Ok st₁ → Walks r' l b₁ b₂ st₁ (λ L σ. run_expr s L levels p ν h σ) → r' ≡ WalkedAs.To st₂ q → st.out ≤ st₂.out
+    → Steps r l b b₁ st (λ L σ. opened_value L at σ) → r ≡ Ok st₁ → Walks r' l b₁ b₂ st₁ (λ L σ. run_expr s L levels p ν h σ) → r' ≡ Ok (st₂, q) → st.out ≤ st₂.out
 unfolding opened_value
 longer_value s levels p at ν h {b = b} {b₁ = b₁} {b₂ = b₂} {st = st} {st₁ = st₁} {st₂ = st₂} f opened e w e' =
     let k = after_ok (passed_expr s _ levels p ν h (stack b₁ st₁)) (went w e' _ refl) in

@@ -2,7 +2,6 @@
 use Prim.Native.Nat.{ℕ, suc, ◌+◌, ◌-◌, ◌<◌, ◌≤◌}
 use native.Mathlib.Omega.{arith}
 use mathlib.Core.List.{List}
-use mathlib.Core.Logic.{◌⊎◌, inl, inr}
 use mathlib.Core.Path.{◌≡◌, refl, sym, ◌∙◌, ap, subst}
 use lib.ListN.{length}
 use Rattle.rules.specs.Outcome.{Outcome, ok, refuse}
@@ -14,18 +13,18 @@ use Rattle.law_runs.specs.Run.{Accepted, values_at, heads_at, items_at, binds_at
 use Rattle.law_runs.proofs.Lists.{StatesByOne, SpecsByOne, items_first, items_by_one, heads_first, heads_by_one, binds_first, binds_by_one, params_first, params_by_one, values_none, values_first, values_head, values_stop, values_rest, values_next, head_fits, head_behind}
 use Rattle.bytes_skip.specs.Behind.{Behind}
 use Rattle.law_steady.proofs.Places.{passed_values, passed_items, passed_heads, passed_binds, passed_params}
-use Rattle.state.specs.Seen.{Buffers, buffers, stack, limits_of}
+use Rattle.state.specs.Seen.{Buffers, buffers, stack, limits_of, contents, SameBuffers}
+use Rattle.state.specs.declared.Lent.{Lent}
 use Rattle.state.specs.Walks.{place_of, walked, specs, Walks, WalksSpecs}
 use Rattle.state.specs.declared.AnalysisStack.{AnalysisStack}
 use Rattle.state.specs.declared.Limits.{Limits}
 use Rattle.state.specs.declared.Place.{Place}
-use Rattle.state.specs.declared.Walked.{Walked}
-use Rattle.state.specs.declared.Walked.TheVariants as WalkedAs
-use Rattle.state.specs.declared.Specs.{Specs}
-use Rattle.state.specs.declared.Specs.TheVariants as specs_as
 use Rattle.law_joins.specs.Ready.{Ready}
 use Rattle.law_joins.proofs.Joining.{Long, Answer, KeptAnswer, limits_kept, went, went_fit, kept_on, kept_fit}
 use Rattle.law_joins.proofs.Readiness.{ready_passed, ready_specs}
+use Rattle.std.specs.Prelude.{Ok, Err}
+use Rattle.refusal.specs.declared.Refusal.{Refusal}
+use Rattle.state.specs.Seen.{Walked, Specs}
 
 -- all six buffers are as long as before
 pub record Longs (b b' : Buffers) : Type 0 where
@@ -39,6 +38,10 @@ pub record Longs (b b' : Buffers) : Type 0 where
 pub long : {b b' : Buffers} → Longs b b' → Long b b'
 long k = record { out = k.out; diagnostics = k.diagnostics }
 
+-- where both stay as they are, whatever becomes of the others
+pub long_same : {o d l l' f f' c c' r r' : List ℕ} → Long (buffers o d l f c r) (buffers o d l' f' c' r')
+long_same = record { out = refl; diagnostics = refl }
+
 pub longs_then : {b b' b'' : Buffers} → Longs b b' → Longs b' b'' → Longs b b''
 longs_then j k = record {
   out = k.out ∙ j.out;
@@ -48,6 +51,19 @@ longs_then j k = record {
   captures = k.captures ∙ j.captures;
   references = k.references ∙ j.references;
 }
+
+-- the same buffers lent, as `SameBuffers` has it
+pub longs_kept : {A B C D E F : Type 0} {b b' : Buffers}
+    → A × (length b'.out ≡ length b.out) × B × (length b'.diagnostics ≡ length b.diagnostics) × C × (length b'.locals ≡ length b.locals)
+    × D × (length b'.frames ≡ length b.frames) × E × (length b'.captures ≡ length b.captures) × F × (length b'.references ≡ length b.references)
+    → Longs b b'
+longs_kept k = record { out = k.1; diagnostics = k.3; locals = k.5; frames = k.7; captures = k.9; references = k.11 }
+
+pub long_kept : {A B C D E F : Type 0} {b b' : Buffers}
+    → A × (length b'.out ≡ length b.out) × B × (length b'.diagnostics ≡ length b.diagnostics) × C × (length b'.locals ≡ length b.locals)
+    × D × (length b'.frames ≡ length b.frames) × E × (length b'.captures ≡ length b.captures) × F × (length b'.references ≡ length b.references)
+    → Long b b'
+long_kept k = long (longs_kept k)
 
 pub longs_none : {b : Buffers} → Longs b b
 longs_none = record { out = refl; diagnostics = refl; locals = refl; frames = refl; captures = refl; references = refl }
@@ -66,19 +82,13 @@ none_over le done = omega arith
 
 -- One step, whichever branch it came from
 
-pub record Turned (l : Limits) (b : Buffers) (st : AnalysisStack) (run : Run) (w : Walked) (b₁ : Buffers) : Type 0 where
-  pub walks : Walks w l b b₁ st run
-  pub longs : Longs b b₁
+pub record Turned (l : Limits) (before after : Lent) (st : AnalysisStack) (run : Run) (w : Walked) : Type 0 where
+  pub walks : Walks w l (contents before) (contents after) st run
+  pub same_buffers : SameBuffers before after
 
-pub turned : {l : Limits} {b : Buffers} {st : AnalysisStack} {run : Run} {o d lo f c re : List ℕ} {r : Walked}
-    → Walks r l b (buffers o d lo f c re) st run → Longs b (buffers o d lo f c re)
-    → {out diagnostics locals frames captures references : List ℕ} {w : Walked} → out ≡ o → diagnostics ≡ d → locals ≡ lo → frames ≡ f → captures ≡ c → references ≡ re → w ≡ r
-    → Turned l b st run w (buffers out diagnostics locals frames captures references)
-turned w k eo ed el ef ec er ew = rw (eo, ed, el, ef, ec, er, ew) record { walks = w; longs = k }
-
-pub either_turned : {A B : Type 0} (l : Limits) (b : Buffers) (st : AnalysisStack) (run : Run) (w : Walked) (b₁ : Buffers) → A ⊎ B → (A → Turned l b st run w b₁) → (B → Turned l b st run w b₁) → Turned l b st run w b₁
-either_turned l b st run w b₁ (inl x) left right = left x
-either_turned l b st run w b₁ (inr y) left right = right y
+pub turned : {l : Limits} {before after : Lent} {st : AnalysisStack} {run : Run} {r : Walked} → Walks r l (contents before) (contents after) st run → SameBuffers before after
+    → {left : Lent} {w : Walked} → left ≡ after → w ≡ r → Turned l before left st run w
+turned w k e e' = rw (e, e') record { walks = w; same_buffers = k }
 
 -- Lists of items and of heads: what must be there, and what is run, by how many and from where
 
@@ -104,7 +114,7 @@ module _ {there : ℕ → ℕ → Type 0} {run : ℕ → ℕ → Run} (u : Unrol
   turn_begin a r = record { few = omega arith; left = subst (λ (k : ℕ). there k p₀) (sym (whole n)) a; ready = r; same = λ L eL. ap (λ (k : ℕ). run k p₀ L (stack b₀ st₀)) (whole n); longs = longs_none; begun = λ _. refl }
 
   module _ {b : Buffers} {st : AnalysisStack} {p i : ℕ} (t : Turn there run l s nest h b₀ st₀ p₀ n b st p i) where
-    pub turn_end : n ≤ i → Walks (WalkedAs.To st p) l b₀ b st₀ (λ L σ. run n p₀ L σ)
+    pub turn_end : n ≤ i → Walks (Ok (st, p)) l b₀ b st₀ (λ L σ. run n p₀ L σ)
     turn_end done = record {
       same = λ L eL. sym (u.none p L (stack b st)) ∙ ap (λ (k : ℕ). run k p L (stack b st)) (sym (none_over t.few done)) ∙ t.same L eL;
       fit = t.ready.fit;
@@ -118,7 +128,7 @@ module _ {there : ℕ → ℕ → Type 0} {run : ℕ → ℕ → Run} (u : Unrol
       turn_first = u.first (n - (i + 1)) p more
 
       module _ {b₁ : Buffers} {r : Walked} (one : Walks r l b b₁ st (λ L σ. run 1 p L σ)) where
-        pub turn_stop : {number place : ℕ} → r ≡ WalkedAs.Refused number place → Walks (WalkedAs.Refused number place) l b₀ b₁ st₀ (λ L σ. run n p₀ L σ)
+        pub turn_stop : {why : Refusal} → r ≡ Err why → Walks (Err why) l b₀ b₁ st₀ (λ L σ. run n p₀ L σ)
         turn_stop e = record {
           same = λ L eL.
               let eL' = eL ∙ limits_kept l (long t.longs) in
@@ -127,7 +137,7 @@ module _ {there : ℕ → ℕ → Type 0} {run : ℕ → ℕ → Run} (u : Unrol
           fit = tt;
         }
 
-        pub turn_next : {st₁ : AnalysisStack} {q : ℕ} → r ≡ WalkedAs.To st₁ q → Longs b b₁ → Turn there run l s nest h b₀ st₀ p₀ n b₁ st₁ q (i + 1)
+        pub turn_next : {st₁ : AnalysisStack} {q : ℕ} → r ≡ Ok (st₁, q) → Longs b b₁ → Turn there run l s nest h b₀ st₀ p₀ n b₁ st₁ q (i + 1)
         turn_next {st₁ = st₁} {q = q} e k = record {
           few = omega (arith, lt);
           left = u.rest (n - (i + 1)) p _ (stack b st) more (went one e _ refl);
@@ -166,7 +176,7 @@ module _ {there : ℕ → ℕ → Type 0} {run : ℕ → ℕ → ℕ → RunSpec
   specs_begin a r = record { few = omega arith; few_kept = omega arith; left = subst (λ (k : ℕ). there k p₀) (sym (whole n)) a; ready = r; same = λ L eL. ap (λ (k : ℕ). run k p₀ 0 L (stack b₀ st₀)) (whole n); longs = longs_none }
 
   module _ {b : Buffers} {st : AnalysisStack} {p kept i : ℕ} (t : TurnSpecs there run l s nest h b₀ st₀ p₀ n b st p kept i) where
-    pub specs_end : n ≤ i → WalksSpecs (specs_as.To st p kept) l b₀ b st₀ (λ L σ. run n p₀ 0 L σ)
+    pub specs_end : n ≤ i → WalksSpecs (Ok (st, p, kept)) l b₀ b st₀ (λ L σ. run n p₀ 0 L σ)
     specs_end done = record {
       same = λ L eL. sym (u.none p kept L (stack b st)) ∙ ap (λ (k : ℕ). run k p kept L (stack b st)) (sym (none_over t.few done)) ∙ t.same L eL;
       fit = t.ready.fit;
@@ -180,7 +190,7 @@ module _ {there : ℕ → ℕ → Type 0} {run : ℕ → ℕ → ℕ → RunSpec
       specs_first = u.first (n - (i + 1)) p more_specs
 
       module _ {b₁ : Buffers} {r : Specs} (one : WalksSpecs r l b b₁ st (λ L σ. run 1 p kept L σ)) where
-        pub specs_stops : {number place : ℕ} → r ≡ specs_as.Refused number place → WalksSpecs (specs_as.Refused number place) l b₀ b₁ st₀ (λ L σ. run n p₀ 0 L σ)
+        pub specs_stops : {why : Refusal} → r ≡ Err why → WalksSpecs (Err why) l b₀ b₁ st₀ (λ L σ. run n p₀ 0 L σ)
         specs_stops e = record {
           same = λ L eL.
               let eL' = eL ∙ limits_kept l (long t.longs) in
@@ -189,7 +199,7 @@ module _ {there : ℕ → ℕ → Type 0} {run : ℕ → ℕ → ℕ → RunSpec
           fit = tt;
         }
 
-        pub specs_next : {st₁ : AnalysisStack} {q k : ℕ} → r ≡ specs_as.To st₁ q k → Longs b b₁ → TurnSpecs there run l s nest h b₀ st₀ p₀ n b₁ st₁ q k (i + 1)
+        pub specs_next : {st₁ : AnalysisStack} {q k : ℕ} → r ≡ Ok (st₁, q, k) → Longs b b₁ → TurnSpecs there run l s nest h b₀ st₀ p₀ n b₁ st₁ q k (i + 1)
         specs_next {st₁ = st₁} {q = q} e j =
             let passed = after_ok (u.passes p kept _ (stack b st)) (kept_on one e _ refl) in
             record {
@@ -224,7 +234,7 @@ module _ {l : Limits} {s : List ℕ} {nest : ℕ} {h : Place} {b₀ : Buffers} {
   }
 
   module _ {b : Buffers} {st : AnalysisStack} {heads p i : ℕ} (t : TurnValues l s nest h b₀ st₀ heads₀ p₀ n b st heads p i) where
-    pub values_end : n ≤ i → Walks (WalkedAs.To st p) l b₀ b st₀ (λ L σ. run_values s L nest n heads₀ p₀ (place_of h) σ)
+    pub values_end : n ≤ i → Walks (Ok (st, p)) l b₀ b st₀ (λ L σ. run_values s L nest n heads₀ p₀ (place_of h) σ)
     values_end done = record {
       same = λ L eL. sym (values_none s L nest heads p (place_of h) (stack b st)) ∙ ap (λ (k : ℕ). run_values s L nest k heads p (place_of h) (stack b st)) (sym (none_over t.few done)) ∙ t.same L eL;
       fit = t.ready.fit;
@@ -245,7 +255,7 @@ module _ {l : Limits} {s : List ℕ} {nest : ℕ} {h : Place} {b₀ : Buffers} {
       turn_head_fits = head_fits s nest heads turn_head
 
       module _ {b₁ : Buffers} {r : Walked} (one : Walks r l b b₁ st (λ L σ. run_values s L nest 1 heads p (place_of h) σ)) where
-        pub values_stops : {number place : ℕ} → r ≡ WalkedAs.Refused number place → Walks (WalkedAs.Refused number place) l b₀ b₁ st₀ (λ L σ. run_values s L nest n heads₀ p₀ (place_of h) σ)
+        pub values_stops : {why : Refusal} → r ≡ Err why → Walks (Err why) l b₀ b₁ st₀ (λ L σ. run_values s L nest n heads₀ p₀ (place_of h) σ)
         values_stops e = record {
           same = λ L eL.
               let eL' = eL ∙ limits_kept l (long t.longs) in
@@ -254,7 +264,7 @@ module _ {l : Limits} {s : List ℕ} {nest : ℕ} {h : Place} {b₀ : Buffers} {
           fit = tt;
         }
 
-        pub values_turn : {st₁ : AnalysisStack} {q heads' : ℕ} → r ≡ WalkedAs.To st₁ q → Behind s heads heads' → Longs b b₁ → TurnValues l s nest h b₀ st₀ heads₀ p₀ n b₁ st₁ heads' q (i + 1)
+        pub values_turn : {st₁ : AnalysisStack} {q heads' : ℕ} → r ≡ Ok (st₁, q) → Behind s heads heads' → Longs b b₁ → TurnValues l s nest h b₀ st₀ heads₀ p₀ n b₁ st₁ heads' q (i + 1)
         values_turn {st₁ = st₁} {q = q} {heads' = heads'} e behind k = record {
           few = omega (arith, lt);
           left = values_rest s _ nest (n - (i + 1)) heads p (place_of h) (stack b st) next_head more_values (went one e _ refl);

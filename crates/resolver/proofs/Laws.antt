@@ -14,7 +14,7 @@ use Rattle.table_frames.specs.Answers.{FrameAt}
 use Rattle.table_frames.specs.declared.Frame.{Frame}
 use Rattle.table_captures.specs.Meaning.{captures_of}
 use Rattle.resolver.specs.Meaning.{frame_of, frames_of}
-use Rattle.resolver.specs.Answers.{Home}
+use Rattle.resolver.specs.Answers.{Home, NoHome}
 
 pub length_frames : (n : ℕ) (frames : List ℕ) (count : ℕ) (captures : List ℕ) → length (frames_of n frames count captures) ≡ n
 unfolding frames_of
@@ -50,13 +50,8 @@ module _ (frames : List ℕ) (n i : ℕ) (same_home : (count : ℕ) (captures : 
     few = rw at.locals few;
   }
 
-  pub home_nowhere : (f : Frame) → i ≡ 0 → f.first_local ≡ 0 → f.n_locals ≡ 0 → Home frames n f
-  unfolding rules.no_frame rules.new_frame
-  home_nowhere f none_left first locals = record {
-    first = λ count captures. ap (λ (h : rules.ClosureFrame). h.first_local) (same_home count captures ∙ defining_none frames count captures i none_left) ∙ sym first;
-    locals = λ count captures. ap (λ (h : rules.ClosureFrame). h.n_locals) (same_home count captures ∙ defining_none frames count captures i none_left) ∙ sym locals;
-    few = omega arith;
-  }
+  pub home_nowhere : i ≡ 0 → NoHome frames n
+  home_nowhere none_left count captures = same_home count captures ∙ defining_none frames count captures i none_left
 
 -- the same frames in other tables
 pub frames_agree : (n : ℕ) (frames frames' : List ℕ) (count count' : ℕ) (captures captures' : List ℕ)

@@ -1,18 +1,21 @@
 -- Resolving an id: what the definition answers in each case, and what a capture appended to the log leaves. Assumes nothing.
 use mathlib.Core.Path.{◌≡◌, refl, sym, ap, ◌∙◌}
 use mathlib.Core.Logic.{⊎_elim, inl, inr}
-use mathlib.Core.Bool.{true, false, ◌&&◌}
+use mathlib.Core.Bool.{true, false}
 use mathlib.Core.Option.{none, some}
 use mathlib.Core.List.{List, [], ◌∷◌, ◌++◌}
 use Prim.Native.Nat.{ℕ, zero, suc, ◌+◌, ◌*◌, ◌-◌, ◌≤◌, ◌<◌}
 use native.Mathlib.Omega.{arith}
 use native.Mathlib.Decide.{dec_lt}
 use lib.ListN.{length, length-append}
-use lib.Dec.{leb, ltb}
-use borrow.Author.Tests.{lt-ltb, le-ltb, le-leb, lt-leb}
+use lib.Dec.{ltb}
+use borrow.Author.Tests.{lt-ltb, le-ltb, le-leb, lt-leb, ltb-true, ltb-false}
 use Rattle.rules.specs.Outcome.{ok, refuse, ◌>>=◌, need, choose, given}
 use Rattle.rules.specs.Frames as rules
 use Rattle.rules.specs.Writing.{slot_number}
+use Rattle.std.specs.Prelude.{Option, Some, None, is_some, IfSome, Ok, Err}
+use Rattle.refusal.specs.Meaning.{number_of}
+use Rattle.refusal.specs.declared.Reason.{Reason}
 use Rattle.table_rows.specs.Entries.{number}
 use Rattle.table_frames.specs.declared.Frame.{Frame}
 use Rattle.table_captures.specs.Meaning.{slot, Logged, taking, logged_at, captures_of}
@@ -23,10 +26,7 @@ use Rattle.table_captures.specs.declared.LSlot.TheVariants.{Local, Capture}
 use Rattle.table_captures.specs.declared.LSlot.{LSlot}
 use Rattle.resolver.specs.Meaning.{frame_of, frames_of}
 use Rattle.resolver.specs.Kept.{KeptBelow, Kept, Owned}
-use Rattle.resolver.specs.Answers.{Home, HeldBy, Resolves, ResolvesToSlot, KeptAfter, Grown, Left, CapturedFrom, Captured}
-use Rattle.resolver.specs.declared.Held.TheVariants.{At, Nothing}
-use Rattle.resolver.specs.declared.Resolved.{Resolved}
-use Rattle.resolver.specs.declared.Resolved.TheVariants.{To, Refused}
+use Rattle.resolver.specs.Answers.{Home, HeldBy, Resolves, NoHome, ResolvesToSlot, Resolved, KeptAfter, Grown, Left, CapturedFrom}
 use Rattle.table_captures.proofs.Laws.{logged_here, logged_beside, captures_start, captures_none, captures_other, captures_put, captures_put_other, length_mine, eq_or_not}
 use Rattle.resolver.proofs.Laws.{frames_top, frames_agree, below_or_top}
 
@@ -78,32 +78,34 @@ module _ (most p above id : ℕ) (frames : List rules.ClosureFrame) (f : rules.C
 
 -- where the frames define the id
 
-module _ (frames : List ℕ) (n : ℕ) (home : Frame) (is : Home frames n home) (id count : ℕ) (captures : List ℕ) where
-  held_there : (s : LocalSlot) → HeldBy (At s) home.first_local home.n_locals id → rules.holds (rules.defining (frames_of n frames count captures)) id ≡ true
-  unfolding rules.holds
-  held_there s h = rw (is.first count captures, is.locals count captures, le-leb home.first_local id h.0, lt-ltb id (home.first_local + home.n_locals) h.1)
+module _ (frames : List ℕ) (n id : ℕ) where
+  module _ (home : Frame) (is : Home frames n home) where
+    -- a frame with locals is there
+    some_frame : (m : ℕ) → Home frames m home → 0 < home.n_locals → 0 < m
+    unfolding frames_of rules.defining rules.no_frame rules.new_frame
+    some_frame zero there any = let no_locals : 0 ≡ home.n_locals = there.locals 0 [] in absurd (omega (arith, no_locals, any))
+    some_frame (suc m) there any = omega arith
 
-  held_slot : (s : LocalSlot) → HeldBy (At s) home.first_local home.n_locals id → rules.slot_in (rules.defining (frames_of n frames count captures)) id ≡ s.0
-  unfolding rules.slot_in
-  held_slot s h = rw (is.first count captures) (sym h.2)
+    pub held_before : id < home.first_local → HeldBy None frames n id
+    unfolding rules.holds
+    held_before lt count captures = rw (is.first count captures, is.locals count captures, lt-leb home.first_local id lt)
 
-  pub held_nowhere : HeldBy Nothing home.first_local home.n_locals id → rules.holds (rules.defining (frames_of n frames count captures)) id ≡ false
-  unfolding rules.holds
-  held_nowhere h = rw (is.first count captures, is.locals count captures) (by (dec_lt id home.first_local))
-    where
-      by : Dec (id < home.first_local) → leb home.first_local id && ltb id (home.first_local + home.n_locals) ≡ false
-      by (yes lt) = rw (lt-leb home.first_local id lt)
-      by (no ge) = by' (dec_lt id (home.first_local + home.n_locals))
-        where
-          by' : Dec (id < home.first_local + home.n_locals) → leb home.first_local id && ltb id (home.first_local + home.n_locals) ≡ false
-          by' (yes lt) = absurd (h (omega arith) lt)
-          by' (no far) = rw (le-leb home.first_local id (omega arith), le-ltb id (home.first_local + home.n_locals) (omega arith))
+    pub held_from : home.first_local ≤ id → (r : Option LocalSlot) → is_some r ≡ ltb (id - home.first_local) home.n_locals
+        → {P : LocalSlot → Type 0} → IfSome r P → ((s : LocalSlot) → P s → s.0 ≡ id - home.first_local) → HeldBy r frames n id
+    unfolding rules.holds rules.slot_in
+    held_from low (Some s) few met own =
+        let lt : id - home.first_local < home.n_locals = ltb-true _ _ (sym few) in (
+          some_frame n is (omega arith),
+          (λ count captures. rw (is.first count captures, is.locals count captures, le-leb home.first_local id low, lt-ltb id (home.first_local + home.n_locals) (omega arith))),
+          (λ count captures. rw (is.first count captures) (own s met)),
+        )
+    held_from low None many met own = λ count captures.
+        let ge : home.n_locals ≤ id - home.first_local = ltb-false _ _ (sym many) in
+        rw (is.first count captures, is.locals count captures, le-leb home.first_local id low, le-ltb id (home.first_local + home.n_locals) (omega arith))
 
--- where no frame is open none holds an id
-pub held_some : (frames : List ℕ) (n : ℕ) (home : Frame) → Home frames n home → (id : ℕ) (own : LocalSlot) → HeldBy (At own) home.first_local home.n_locals id → 0 < n
-unfolding frames_of rules.defining rules.no_frame rules.new_frame
-held_some frames zero home is id own h = let none : 0 ≡ home.n_locals = is.locals 0 [] in absurd (omega (arith, none, h.0, h.1))
-held_some frames (suc n) home is id own h = omega arith
+  pub held_nowhere : NoHome frames n → HeldBy None frames n id
+  unfolding rules.holds rules.no_frame rules.new_frame
+  held_nowhere no_home count captures = rw (no_home count captures, le-leb 0 id (omega arith), le-ltb id 0 (omega arith))
 
 -- what is kept of n frames, of one less
 
@@ -136,24 +138,22 @@ unchanged n frames count captures kept = record {
 }
 
 module _ (n : ℕ) (frames : List ℕ) (count : ℕ) (captures : List ℕ) (most id : ℕ) (kept : KeptBelow n frames count captures) where
-  pub resolves_none : n ≡ 0 → Resolves (To (Local (record { 0 = 0 })) count) n frames count captures captures most id
+  pub resolves_none : n ≡ 0 → Resolves (Ok (Local (record { 0 = 0 }), count)) n frames count captures captures most id
   unfolding frames_of rules.resolve_at slot
   resolves_none z = record {
     same = λ p above sum. rw z;
     left = unchanged n frames count captures kept;
   }
 
-  pub resolves_held : (home : Frame) → Home frames n home → (own : LocalSlot) → HeldBy (At own) home.first_local home.n_locals id → 0 < n
-      → Resolves (To (Local own) count) n frames count captures captures most id
+  pub resolves_held : (own : LocalSlot) → HeldBy (Some own) frames n id → Resolves (Ok (Local own, count)) n frames count captures captures most id
   unfolding slot
-  resolves_held home is own h pos = record {
-    same = λ p above sum. sym (resolve_held most p above id (frames_of n frames count captures) _ _ (frames_top frames count captures n pos) (held_there frames n home is id count captures own h)
-        ∙ rw (held_slot frames n home is id count captures own h));
+  resolves_held own (pos, held, is) = record {
+    same = λ p above sum. sym (resolve_held most p above id (frames_of n frames count captures) _ _ (frames_top frames count captures n pos) (held count captures) ∙ rw (is count captures));
     left = unchanged n frames count captures kept;
   }
 
   pub resolves_found : rules.holds (rules.defining (frames_of n frames count captures)) id ≡ false → 0 < n → (k : CaptureSlot)
-      → some k.0 ≡ rules.capture_of id 0 (captures_of (n - 1) count captures) → Resolves (To (Capture k) count) n frames count captures captures most id
+      → some k.0 ≡ rules.capture_of id 0 (captures_of (n - 1) count captures) → Resolves (Ok (Capture k, count)) n frames count captures captures most id
   unfolding frame_of slot
   resolves_found unheld pos k found = record {
     same = λ p above sum. sym (resolve_found most p above id (frames_of n frames count captures) _ _ (frames_top frames count captures n pos) unheld k.0 (sym found));
@@ -219,15 +219,15 @@ module _ (n : ℕ) (frames : List ℕ) (count : ℕ) (before : List ℕ) (most i
   unfolding rules.count_captures frame_of
   above_too above sum = let s : above + (length (captures_of (n - 1) count before) + rules.count_captures (frames_of (n - 1) frames count before)) ≡ count = rw split at sum in omega arith
 
-  resolves_refused : (why : ℕ) (middle after : List ℕ) → Resolves (Refused why) (n - 1) frames count before middle most id → Resolves (Refused why) n frames count before after most id
+  pub resolves_refused : (why : Reason) (middle after : List ℕ) → Resolves (Err why) (n - 1) frames count before middle most id → Resolves (Err why) n frames count before after most id
   unfolding frame_of
   resolves_refused why middle after r = record {
-    same = λ p above sum. sym (resolve_refused most p above id (frames_of n frames count before) _ _ split unheld (sym missing) why p
+    same = λ p above sum. sym (resolve_refused most p above id (frames_of n frames count before) _ _ split unheld (sym missing) (number_of why) p
         (sym (r.same p (above + length (captures_of (n - 1) count before)) (above_too above sum))));
     left = tt;
   }
 
-  module _ (source : LSlot) (count' : ℕ) (middle : List ℕ) (r : Resolves (To source count') (n - 1) frames count before middle most id) (room : 16 * most ≤ length middle) where
+  module _ (source : LSlot) (count' : ℕ) (middle : List ℕ) (r : Resolves (Ok (source, count')) (n - 1) frames count before middle most id) (room : 16 * most ≤ length middle) where
     abbrev taken : rules.Capture
     taken = record { target = id; source = slot source }
 
@@ -279,29 +279,24 @@ module _ (n : ℕ) (frames : List ℕ) (count : ℕ) (before : List ℕ) (most i
         summed = omega (arith, sum_now, sum_before, r.left.summed, length-append (captures_of (n - 1) count before) (taken ∷ []));
       }
 
-    resolves_captured : (a : Resolved) (after : List ℕ) → CapturedFrom source count' a middle after most (n - 1) k id → Resolves a n frames count before after most id
+    pub resolves_captured : (a : Resolved) (after : List ℕ) → CapturedFrom source count' a middle after most (n - 1) k id → Resolves a n frames count before after most id
     unfolding frame_of
-    resolves_captured (To s count'') after (is, few, fit, one, small, put) = rw one record {
+    resolves_captured (Ok (s, count'')) after (is, few, fit, one, small, put) = rw one record {
       same = λ p above sum. rw (is, counted, captured after few fit small put)
           (sym (resolve_captured most p above id (frames_of n frames count before) _ _ split unheld (sym missing) parent
           (sym (r.same p (above + length (captures_of (n - 1) count before)) (above_too above sum))) (omega (arith, counted)) (omega (arith, now_too above sum))));
       left = grown after few fit small put;
     }
-    resolves_captured (Refused why) after (inl (big, twelve)) = record {
+    resolves_captured (Err why) after (inl (big, twelve)) = record {
       same = λ p above sum. rw twelve (sym (resolve_12 most p above id (frames_of n frames count before) _ _ split unheld (sym missing) parent
           (sym (r.same p (above + length (captures_of (n - 1) count before)) (above_too above sum))) (omega (arith, counted))));
       left = tt;
     }
-    resolves_captured (Refused why) after (inr (few, full, eight)) = record {
+    resolves_captured (Err why) after (inr (few, full, eight)) = record {
       same = λ p above sum. rw eight (sym (resolve_8 most p above id (frames_of n frames count before) _ _ split unheld (sym missing) parent
           (sym (r.same p (above + length (captures_of (n - 1) count before)) (above_too above sum))) (omega (arith, counted)) (omega (arith, now_too above sum))));
       left = tt;
     }
-
-  pub resolves_beneath : (parent a : Resolved) (middle after : List ℕ) → Resolves parent (n - 1) frames count before middle most id → 16 * most ≤ length middle
-      → Captured parent a middle after most (n - 1) k id → Resolves a n frames count before after most id
-  resolves_beneath (To source count') a middle after r room c = resolves_captured source count' middle r room a after c
-  resolves_beneath (Refused why) a middle after r room c = rw c (resolves_refused why middle after r)
 
 -- the log's length is the sum of the frames' captures
 
@@ -334,8 +329,8 @@ module _ (n : ℕ) (frames : List ℕ) (count : ℕ) (before after : List ℕ) (
       by (no ge) = let t : (i < count) × ((logged_at before i).owner ≡ (logged_at after i).owner) = grown.theirs (logged_at after i).owner i (omega arith) lt refl in omega (arith, kept.owned i t.0, t.1)
 
   kept_still : (r : Resolved) → Left r n frames count before after → KeptAfter r n frames after
-  kept_still (To s count') grown = record { below = grown.kept; owned = owned_still count' grown }
-  kept_still (Refused why) left = tt
+  kept_still (Ok (s, count')) grown = record { below = grown.kept; owned = owned_still count' grown }
+  kept_still (Err why) left = tt
 
   pub resolves_to_slot : (r : Resolved) → Resolves r n frames count before after most id → ResolvesToSlot r n frames count before after most id
   unfolding rules.resolve_to_slot

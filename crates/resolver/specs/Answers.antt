@@ -1,18 +1,18 @@
 -- What the functions answer and leave. Assumes nothing.
-use Rattle.std.specs.Prelude.{Bool, List, ◌∷◌, ◌⊎◌, ◌≡◌, ℕ, suc, ◌+◌, ◌-◌, ◌≤◌, ◌<◌}
+use Rattle.std.specs.Prelude.{Bool, true, false, List, ◌∷◌, ◌⊎◌, ◌≡◌, ℕ, suc, ◌+◌, ◌-◌, ◌≤◌, ◌<◌, Option, Some, None, Result, Ok, Err}
 use Rattle.rules.specs.Outcome.{Outcome, ok, refuse}
 use Rattle.rules.specs.Frames as rules
 use Rattle.rules.specs.Writing.{slot_number}
+use Rattle.refusal.specs.Meaning.{number_of}
+use Rattle.refusal.specs.declared.Reason.{Reason}
+use Rattle.refusal.specs.declared.Reason.TheVariants as reason
 use Rattle.table_frames.specs.declared.Frame.{Frame}
 use Rattle.table_captures.specs.Meaning.{slot, taking, logged_at, captures_of}
 use Rattle.table_captures.specs.Answers.{PutCapture}
+use Rattle.table_captures.specs.declared.LocalSlot.{LocalSlot}
 use Rattle.table_captures.specs.declared.LSlot.{LSlot}
 use Rattle.resolver.specs.Meaning.{frames_of}
 use Rattle.resolver.specs.Kept.{KeptBelow, Kept, Owned}
-use Rattle.resolver.specs.declared.Held.{Held}
-use Rattle.resolver.specs.declared.Held.TheVariants as held_is
-use Rattle.resolver.specs.declared.Resolved.{Resolved}
-use Rattle.resolver.specs.declared.Resolved.TheVariants.{To, Refused}
 
 -- a new frame stands on the others
 pub record Opened (before after : List ℕ) (n : ℕ) (is_defining : Bool) (first_local n_locals count : ℕ) : Type 0 where
@@ -26,14 +26,25 @@ pub record Home (frames : List ℕ) (n : ℕ) (f : Frame) : Type 0 where
   pub locals : (count : ℕ) (captures : List ℕ) → (rules.defining (frames_of n frames count captures)).n_locals ≡ f.n_locals
   pub few : f.n_locals ≤ 65535
 
--- an id among n from the first on, with its distance from it
-abbrev pub HeldBy : Held → (first n id : ℕ) → Type 0
-HeldBy (held_is.At s) first n id = (first ≤ id) × (id < first + n) × (s.0 ≡ id - first)
-HeldBy held_is.Nothing first n id = first ≤ id → id < first + n → ⊥
+-- none of the first n frames is one that they define in
+abbrev pub NoHome : (frames : List ℕ) → (n : ℕ) → Type 0
+NoHome frames n = (count : ℕ) (captures : List ℕ) → rules.defining (frames_of n frames count captures) ≡ rules.no_frame
+
+-- the slot of an id where the first n frames define it, which takes a frame
+abbrev pub HeldBy : Option LocalSlot → (frames : List ℕ) → (n id : ℕ) → Type 0
+HeldBy (Some s) frames n id =
+    (0 < n)
+    × ((count : ℕ) (captures : List ℕ) → rules.holds (rules.defining (frames_of n frames count captures)) id ≡ true)
+    × ((count : ℕ) (captures : List ℕ) → s.0 ≡ rules.slot_in (rules.defining (frames_of n frames count captures)) id)
+HeldBy None frames n id = (count : ℕ) (captures : List ℕ) → rules.holds (rules.defining (frames_of n frames count captures)) id ≡ false
+
+-- what resolving answers: a slot and the log's length now, or a reason to refuse
+abbrev pub Resolved : Type 0
+Resolved = Result (LSlot × ℕ) Reason
 
 abbrev pub seen : Resolved → (place n : ℕ) → (frames captures : List ℕ) → Outcome rules.Resolved
-seen (To s count) place n frames captures = ok (record { slot = slot s; frames = frames_of n frames count captures })
-seen (Refused why) place n frames captures = refuse why place
+seen (Ok (s, count)) place n frames captures = ok (record { slot = slot s; frames = frames_of n frames count captures })
+seen (Err why) place n frames captures = refuse (number_of why) place
 
 -- the log after resolving in the n-th frame: the frames above it have what they had
 pub record Grown (n : ℕ) (frames : List ℕ) (count count' : ℕ) (before after : List ℕ) : Type 0 where
@@ -44,8 +55,8 @@ pub record Grown (n : ℕ) (frames : List ℕ) (count count' : ℕ) (before afte
   pub summed : rules.count_captures (frames_of n frames count' after) + count ≡ rules.count_captures (frames_of n frames count before) + count'
 
 abbrev pub Left : Resolved → (n : ℕ) → (frames : List ℕ) → (count : ℕ) → (before after : List ℕ) → Type 0
-Left (To s count') n frames count before after = Grown n frames count count' before after
-Left (Refused why) n frames count before after = Unit {0}
+Left (Ok (s, count')) n frames count before after = Grown n frames count count' before after
+Left (Err why) n frames count before after = Unit {0}
 
 -- resolving in the n-th frame; `above` is what the frames above it have captured
 pub record Resolves (r : Resolved) (n : ℕ) (frames : List ℕ) (count : ℕ) (before after : List ℕ) (most id : ℕ) : Type 0 where
@@ -53,22 +64,17 @@ pub record Resolves (r : Resolved) (n : ℕ) (frames : List ℕ) (count : ℕ) (
       → seen r place n frames after ≡ rules.resolve_at most place above id (frames_of n frames count before)
   pub left : Left r n frames count before after
 
--- the answer of the frame beneath put after the log as a capture, or refused: 12 before 8
+-- the slot of the frame beneath put after the log as a capture, or refused: 12 before 8
 abbrev pub CapturedFrom : (source : LSlot) (count : ℕ) → Resolved → (before after : List ℕ) → (most owner k id : ℕ) → Type 0
-CapturedFrom source count (To s count') before after most owner k id =
+CapturedFrom source count (Ok (s, count')) before after most owner k id =
     (slot s ≡ rules.capture_slot k) × (k ≤ 65535) × (count < most) × (count' ≡ suc count) × (slot_number (slot source) ≤ 65535)
     × PutCapture before after count (taking owner id (slot source))
-CapturedFrom source count (Refused why) before after most owner k id =
-    ((65535 < k) × (why ≡ 12)) ⊎ ((k ≤ 65535) × (most ≤ count) × (why ≡ 8))
-
--- or its refusal
-abbrev pub Captured : (parent answer : Resolved) → (before after : List ℕ) → (most owner k id : ℕ) → Type 0
-Captured (To source count) answer before after most owner k id = CapturedFrom source count answer before after most owner k id
-Captured (Refused why) answer before after most owner k id = answer ≡ Refused why
+CapturedFrom source count (Err why) before after most owner k id =
+    ((65535 < k) × (why ≡ reason.TooManyCaptures)) ⊎ ((k ≤ 65535) × (most ≤ count) × (why ≡ reason.CaptureLimit))
 
 abbrev pub KeptAfter : Resolved → (n : ℕ) → (frames captures : List ℕ) → Type 0
-KeptAfter (To s count) n frames captures = Kept n frames count captures
-KeptAfter (Refused why) n frames captures = Unit {0}
+KeptAfter (Ok (s, count)) n frames captures = Kept n frames count captures
+KeptAfter (Err why) n frames captures = Unit {0}
 
 -- resolving in the top frame
 pub record ResolvesToSlot (r : Resolved) (n : ℕ) (frames : List ℕ) (count : ℕ) (before after : List ℕ) (most id : ℕ) : Type 0 where

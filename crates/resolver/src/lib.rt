@@ -2,29 +2,18 @@
 
 #![tactic(auto)]
 
-ghost use Rattle.std.specs.Prelude.{ℕ, ◌+◌, ◌*◌, ◌<◌, ◌≤◌, length};
+ghost use Rattle.std.specs.Prelude.{ℕ, ◌+◌, ◌*◌, ◌<◌, ◌≤◌, length, MatchOption};
 ghost use Rattle.table_rows.specs.Entries.{number};
 ghost use Rattle.resolver.specs.Kept.{KeptBelow, Kept};
-ghost use Rattle.resolver.specs.Answers.{Home, HeldBy, Opened, Captured, Resolves, ResolvesToSlot, Closed};
+ghost use Rattle.resolver.specs.Answers.{Home, NoHome, HeldBy, Opened, CapturedFrom, Resolves, ResolvesToSlot, Closed};
 
-use find_capture::{FoundCapture, capture_of};
+use find_capture::capture_of;
+use refusal::Reason;
 use table_captures::{Capture, CaptureSlot, LSlot, LocalSlot, capture_at, owner_at, put_capture};
 use table_frames::{Frame, frame_at, put_frame};
 use value_local::LocalId;
 
-// The slot of an id, where the frame defined it.
-#[derive(Clone, Copy)]
-pub enum Held {
-    At(LocalSlot),
-    Nothing,
-}
-
-// The slot and the log's length now, or a refusal.
-#[derive(Clone, Copy)]
-pub enum Resolved {
-    To(LSlot, u32),
-    Refused(u32),
-}
+// The tables, n and count stay parameters, and `Kept` their clause: document 01 asks for state by value beside lent tables.
 
 // A new frame on the n that are open.
 pub fn push_frame(
@@ -50,80 +39,52 @@ pub fn push_frame(
     );
 }
 
-// The first id and the number of locals where the top of n frames defines: in itself, or in the nearest defining frame beneath.
-fn defining(frames: &[u32], n: u32) -> Frame
+// The frame that the top of n frames defines in: itself, or the nearest defining frame beneath.
+fn defining(frames: &[u32], n: u32) -> Option<Frame>
     requires { (16 * n ≤ length frames.now) × ((f : ℕ) → f < n → number frames.now f 2 ≤ 65535) }
-    ensures { Home frames.now n result }
+    ensures { MatchOption result (NoHome frames.now n) (Home frames.now n) }
 {
-    let mut i = n;
-    while 0 < i {
-        i -= 1;
+    for i in (0..n).rev() {
         let f = frame_at(frames, i);
         if f.is_defining {
-            return f;
+            return Some(f);
         }
     }
-    Frame {
-        is_defining: true,
-        first_local: 0,
-        n_locals: 0,
-        captures_from: 0,
-    }
+    None
 }
 
-// The slot of an id that the frame defined.
-fn resolve(home: Frame, id: LocalId) -> Held
-    requires { home.n_locals ≤ 65535 }
-    ensures { HeldBy result home.first_local home.n_locals id.0 }
+// The slot of an id that the top of n frames defines.
+fn resolve(frames: &[u32], n: u32, id: LocalId) -> Option<LocalSlot>
+    requires { (16 * n ≤ length frames.now) × ((f : ℕ) → f < n → number frames.now f 2 ≤ 65535) }
+    ensures { HeldBy result frames.now n id.0 }
 {
-    let first = home.first_local;
-    let n = home.n_locals;
-    if id.0 < first {
-        return Held::Nothing;
-    }
-    let own = id.0 - first;
-    if own < n {
-        Held::At(LocalSlot(own as u16))
-    } else {
-        Held::Nothing
-    }
+    let home = defining(frames, n)?;
+    let own = id.0.checked_sub(home.first_local)?;
+    (own < home.n_locals).then(|| LocalSlot(own as u16))
 }
 
-// The owner, which has k captures, captures an id too, from where the frame beneath has it.
+// A capture more for its owner, which has k.
 fn add_capture(
     captures: &mut [u32],
+    count: u32,
     most: u32,
-    owner: u32,
     k: u32,
-    id: LocalId,
-    parent: Resolved,
-) -> Resolved
+    taken: Capture,
+) -> Result<(LSlot, u32), Reason>
     requires { 16 * most ≤ length captures.old }
-    ensures { Captured parent result captures.old captures.new most owner k id.0 }
+    ensures { CapturedFrom taken.source count result captures.old captures.new most taken.owner k taken.target.0 }
 {
-    let Resolved::To(source, count) = parent else {
-        return parent;
+    let Ok(own) = u16::try_from(k) else {
+        return Err(Reason::TooManyCaptures);
     };
-    if 65535 < k {
-        return Resolved::Refused(12);
-    }
     if most <= count {
-        return Resolved::Refused(8);
+        return Err(Reason::CaptureLimit);
     }
-    let target = id;
-    put_capture(
-        captures,
-        count,
-        Capture {
-            owner,
-            target,
-            source,
-        },
-    );
-    Resolved::To(LSlot::Capture(CaptureSlot(k as u16)), count + 1)
+    put_capture(captures, count, taken);
+    Ok((LSlot::Capture(CaptureSlot(own)), count + 1))
 }
 
-// An id resolved in the top of the first n frames.
+// An id resolved in the top of the first n frames: its slot and the log's length now.
 fn resolve_at(
     frames: &[u32],
     captures: &mut [u32],
@@ -131,25 +92,28 @@ fn resolve_at(
     count: u32,
     most: u32,
     id: LocalId,
-) -> Resolved
+) -> Result<(LSlot, u32), Reason>
     requires { (KeptBelow n frames.now count captures.old) × (16 * most ≤ length captures.old) }
     ensures { Resolves result n frames.now count captures.old captures.new most id.0 }
 {
     if n == 0 {
-        return Resolved::To(LSlot::Local(LocalSlot(0)), count);
+        return Ok((LSlot::Local(LocalSlot(0)), count));
     }
-    let held = resolve(defining(frames, n), id);
-    if let Held::At(slot) = held {
-        return Resolved::To(LSlot::Local(slot), count);
+    if let Some(slot) = resolve(frames, n, id) {
+        return Ok((LSlot::Local(slot), count));
     }
     let idx = n - 1;
-    let f = frame_at(frames, idx);
-    let found = capture_of(captures, f.captures_from, count, idx, id);
-    match found {
-        FoundCapture::At(slot) => Resolved::To(LSlot::Capture(slot), count),
-        FoundCapture::Nothing(k) => {
-            let parent = resolve_at(frames, captures, idx, count, most, id);
-            add_capture(captures, most, idx, k, id, parent)
+    let from = frame_at(frames, idx).captures_from;
+    match capture_of(captures, from, count, idx, id) {
+        Ok(slot) => Ok((LSlot::Capture(slot), count)),
+        Err(k) => {
+            let (source, count) = resolve_at(frames, captures, idx, count, most, id)?;
+            let taken = Capture {
+                owner: idx,
+                target: id,
+                source,
+            };
+            add_capture(captures, count, most, k, taken)
         }
     }
 }
@@ -162,15 +126,14 @@ pub fn resolve_to_slot(
     count: u32,
     most: u32,
     id: LocalId,
-) -> Resolved
+) -> Result<(LSlot, u32), Reason>
     requires { (Kept n frames.now count captures.old) × (16 * most ≤ length captures.old) }
     ensures { ResolvesToSlot result n frames.now count captures.old captures.new most id.0 }
 {
-    let own = resolve(defining(frames, n), id);
-    if let Held::At(slot) = own {
-        return Resolved::To(LSlot::Local(slot), count);
+    match resolve(frames, n, id) {
+        Some(slot) => Ok((LSlot::Local(slot), count)),
+        None => resolve_at(frames, captures, n, count, most, id),
     }
-    resolve_at(frames, captures, n, count, most, id)
 }
 
 // The top frame is closed: its captures leave the log, and the others close up. Answers the log's length.
@@ -179,16 +142,13 @@ pub fn pop_frame(frames: &[u32], captures: &mut [u32], n: u32, count: u32) -> u3
     ensures { Closed n frames.now count captures.old result captures.new }
 {
     let top = n - 1;
-    let f = frame_at(frames, top);
-    let from = f.captures_from;
+    let from = frame_at(frames, top).captures_from;
     let mut to = from;
-    let mut i = from;
-    while i < count {
+    for i in from..count {
         if owner_at(captures, i) != top {
             put_capture(captures, to, capture_at(captures, i));
             to += 1;
         }
-        i += 1;
     }
     to
 }

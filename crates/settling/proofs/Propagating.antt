@@ -1,6 +1,6 @@
 -- Laws of one reference in both loops. Assumes nothing.
 use Prim.Native.Nat.{ℕ, ◌+◌, ◌*◌, ◌≤◌, ◌<◌}
-use mathlib.Core.Bool.{Bool, true, false, not, ◌||◌}
+use mathlib.Core.Bool.{Bool, true, false, not}
 use mathlib.Core.List.{List, [], ◌∷◌}
 use mathlib.Core.Path.{◌≡◌, refl, sym, ap, ◌∙◌}
 use native.Mathlib.Omega.{arith}
@@ -10,41 +10,14 @@ use borrow.Author.Tests.{lt-ltb, le-ltb}
 use Rattle.rules.specs.Outcome.{choose}
 use Rattle.rules.specs.Depths.{AnalysisResult, taint_by, depend_on_local, same_result}
 use Rattle.rules.specs.Locals.{LocalDefinition, local_at, with_analysis, with_used_at_depth}
-use Rattle.rules.specs.Settling.{Reference, Round, Loop, propagate_analysis, propagate_use}
+use Rattle.rules.specs.Settling.{Round, propagate_analysis, propagate_use}
 use Rattle.table_rows.specs.Rows.{row}
 use Rattle.table_rows.proofs.Laws.{row_at, row_set, row_beside, length_row}
 use Rattle.table_locals.specs.Meaning.{local_of_row, locals_of}
 use Rattle.table_locals.specs.Tables.{PutLocal}
 use Rattle.table_locals.proofs.Laws.{locals_at, local_stored}
 use Rattle.table_references.specs.Meaning.{reference}
-use Rattle.settling.specs.Meaning.{round, Propagates, loop_of}
-use Rattle.settling.specs.declared.LoopKind.{LoopKind}
-use Rattle.settling.specs.declared.LoopKind.TheVariants.{Analysis, Use}
-
--- What a round has changed already
-
--- a reference does the same to the locals whatever the round has changed before, and a round that has changed something stays so
-abbrev pub Ors : Loop → Type 0
-Ors loop = (ls : List LocalDefinition) (changed : Bool) (ref : Reference) → loop (round ls changed) ref ≡ round (loop (round ls false) ref).locals (changed || (loop (round ls false) ref).changed)
-
-analysis_ors : Ors propagate_analysis
-unfolding propagate_analysis
-analysis_ors ls changed ref = refl
-
-chosen_ors : (lowers : Bool) (ls ls' : List LocalDefinition) (changed : Bool)
-    → choose lowers (λ _. round ls' true) (λ _. round ls changed) ≡ round (choose lowers (λ _. round ls' true) (λ _. round ls false)).locals (changed || (choose lowers (λ _. round ls' true) (λ _. round ls false)).changed)
-unfolding choose
-chosen_ors true ls ls' true = refl
-chosen_ors true ls ls' false = refl
-chosen_ors false ls ls' true = refl
-chosen_ors false ls ls' false = refl
-
-use_ors : Ors propagate_use
-unfolding propagate_use
-use_ors ls changed ref =
-    let at = (local_at ls ref.user).used_at_depth in
-    let used = local_at ls ref.used in
-    chosen_ors (ltb at used.used_at_depth) ls (set ls ref.used (with_used_at_depth at used)) changed
+use Rattle.settling.specs.Meaning.{round, Propagates}
 
 -- The analysis
 
@@ -112,7 +85,3 @@ module _ (t : List ℕ) where
     pub use_stays : used_at_depth_of used ≤ used_at_depth_of user → Propagates propagate_use t t user used false
     unfolding choose
     use_stays not_lower = record { same = λ n user_below used_below. sym (chosen n user_below used_below ∙ rw (le-ltb (used_at_depth_of user) (used_at_depth_of used) not_lower)) }
-
-pub loop_ors : (which : LoopKind) → Ors (loop_of which)
-loop_ors Analysis = analysis_ors
-loop_ors Use = use_ors

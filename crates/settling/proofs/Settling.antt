@@ -3,16 +3,13 @@ use Prim.Native.Nat.{ℕ, suc, ◌+◌, ◌-◌, ◌≤◌, ◌<◌}
 use mathlib.Core.Bool.{Bool, true, false}
 use mathlib.Core.List.{List}
 use mathlib.Core.Path.{◌≡◌, refl, sym, ap, ◌∙◌}
-use native.Mathlib.Numerals.{add-one}
 use native.Mathlib.Omega.{arith}
-use borrow.Author.Rules.{rules}
-use borrow.Author.Tests.{not-true, not-false}
 use lib.ListN.{length}
 use Rattle.rules.specs.Outcome.{choose}
 use Rattle.rules.specs.Locals.{LocalDefinition}
 use Rattle.rules.specs.Settling.{Reference, Round, Loop, one_round, Settled, settle, settled}
 use Rattle.table_locals.specs.Meaning.{locals_of}
-use Rattle.settling.specs.Meaning.{Below, Inside, round, after_rounds, OneRound, Settles}
+use Rattle.settling.specs.Meaning.{Below, round, after_rounds, OneRound, Settles}
 
 -- One round more
 
@@ -35,67 +32,60 @@ module _ (loop : Loop) (refs : List Reference) (ls : List LocalDefinition) (left
 
 -- The loop
 
--- the locals that are referred to stay in a table that is as long
-pub inside_still : {locals t references : List ℕ} {from to : ℕ} → length t ≡ length locals → Inside locals references from to → Inside t references from to
-inside_still size inside = record {
-  references_long = inside.references_long;
-  entries = inside.entries;
-  locals_long = omega (arith, inside.locals_long);
-  below = inside.below;
-}
-
--- with so many rounds left of the most, and t for the table now: what is left of the loop gives what the whole gives
-pub record Settling (loop : Loop) (refs : List Reference) (locals : List ℕ) (most : ℕ) (t : List ℕ) (left : ℕ) : Type 0 where
-  pub within : left ≤ most
+-- before the round `next`, with t for the table now: what is left of the loop gives what the whole gives
+pub record Settling (loop : Loop) (refs : List Reference) (locals : List ℕ) (kept : ℕ) (t : List ℕ) (next : ℕ) : Type 0 where
   pub size : length t ≡ length locals
-  pub same : (n : ℕ) → Below n refs → behind (most - left) (settle left loop refs (locals_of n t)) ≡ settle most loop refs (locals_of n locals)
+  pub same : (n : ℕ) → Below n refs → behind (next - 1) (settle (kept + 2 - next) loop refs (locals_of n t)) ≡ settled kept loop refs (locals_of n locals)
 
-pub settling_begins : {loop : Loop} {refs : List Reference} {locals : List ℕ} {most : ℕ} → Settling loop refs locals most locals most
-settling_begins {loop} {refs} {locals} {most} = record {
-  within = omega arith;
+pub settling_begins : {loop : Loop} {refs : List Reference} {locals : List ℕ} (kept : ℕ) → Settling loop refs locals kept locals 1
+unfolding settled
+settling_begins {loop} {refs} {locals} kept = record {
   size = refl;
   same = λ n below.
-      let whole = settle most loop refs (locals_of n locals) in
-      let none_yet : most - most + whole.rounds ≡ whole.rounds = omega arith in
-      ap (after_rounds whole.locals) none_yet;
+      let whole = settle (suc kept) loop refs (locals_of n locals) in
+      let all : kept + 2 - 1 ≡ suc kept = omega arith in
+      let none_yet : 0 + whole.rounds ≡ whole.rounds = omega arith in
+      rw all (ap (after_rounds whole.locals) none_yet);
 }
 
-module _ {loop : Loop} {refs : List Reference} {locals : List ℕ} (kept : ℕ) {t : List ℕ} {left : ℕ} (at : Settling loop refs locals (kept + 1) t left) where
-  pub settling_ends : left ≤ 0 → Settles loop refs locals t kept (kept + 1)
-  unfolding settle settled
-  settling_ends h = record {
-    few = omega arith;
+module _ {loop : Loop} {refs : List Reference} {locals t : List ℕ} {kept next : ℕ} (at : Settling loop refs locals kept t next) (some : 1 ≤ next) (few : next ≤ kept + 1)
+    {t' : List ℕ} {changed : Bool} (round_is : OneRound loop refs t t' changed) where
+  -- the round and what is left after it
+  one_less : kept + 2 - next - 1 ≡ kept + 2 - (next + 1)
+  one_less = omega (arith, few)
+
+  split : (n : ℕ) → Below n refs → settle (kept + 2 - next) loop refs (locals_of n t)
+      ≡ choose changed (λ _. once_more (settle (kept + 2 - (next + 1)) loop refs (locals_of n t'))) (λ _. after_rounds (locals_of n t') 1)
+  split n below = first_round loop refs (locals_of n t) (kept + 2 - next) (omega arith) (round_is.same n below)
+      ∙ ap (λ (m : ℕ). choose changed (λ _. once_more (settle m loop refs (locals_of n t'))) (λ _. after_rounds (locals_of n t') 1)) one_less
+
+  pub settling_stops : changed ≡ false → Settles loop refs locals t' kept next
+  unfolding choose
+  settling_stops nothing = record {
+    few = few;
     same = λ n below.
-        let none : left ≡ 0 = omega arith in
-        let all : kept + 1 - 0 + 0 ≡ kept + 1 = omega arith in
-        ap (after_rounds (locals_of n t)) (sym all) ∙ rw none at (at.same n below) ∙ ap (λ (m : ℕ). settle m loop refs (locals_of n locals)) (add-one kept);
+        let rounds : next ≡ next - 1 + 1 = omega (arith, some) in
+        ap (after_rounds (locals_of n t')) rounds ∙ ap (behind (next - 1)) (sym (rw nothing at (split n below))) ∙ at.same n below;
   }
 
-  module _ (more : 0 < left) {t' : List ℕ} where
-    pub settling_stops : {changed : Bool} → changed ≡ false → OneRound loop refs t t' changed → Settles loop refs locals t' kept (kept + 1 - (left - 1))
-    unfolding choose settled
-    settling_stops nothing last = record {
-      few = omega arith;
-      same = λ n below.
-          let rounds : kept + 1 - (left - 1) ≡ kept + 1 - left + 1 = omega (arith, at.within) in
-          ap (after_rounds (locals_of n t')) rounds
-          ∙ ap (behind (kept + 1 - left)) (sym (first_round loop refs (locals_of n t) left more (rw nothing at (last.same n below))))
-          ∙ at.same n below
-          ∙ ap (λ (m : ℕ). settle m loop refs (locals_of n locals)) (add-one kept);
-    }
+  pub settling_goes_on : changed ≡ true → length t' ≡ length t → Settling loop refs locals kept t' (next + 1)
+  unfolding choose
+  settling_goes_on something size = record {
+    size = size ∙ at.size;
+    same = λ n below.
+        let rest = settle (kept + 2 - (next + 1)) loop refs (locals_of n t') in
+        let rounds : next + 1 - 1 + rest.rounds ≡ next - 1 + suc rest.rounds = omega (arith, some) in
+        ap (after_rounds rest.locals) rounds ∙ ap (behind (next - 1)) (sym (rw something at (split n below))) ∙ at.same n below;
+  }
 
-    pub settling_goes_on : {changed : Bool} → changed ≡ true → length t' ≡ length t → OneRound loop refs t t' changed → Settling loop refs locals (kept + 1) t' (left - 1)
-    unfolding choose
-    settling_goes_on something size changing = record {
-      within = omega (arith, at.within);
-      size = size ∙ at.size;
-      same = λ n below.
-          let rest = settle (left - 1) loop refs (locals_of n t') in
-          let rounds : kept + 1 - (left - 1) + rest.rounds ≡ kept + 1 - left + suc rest.rounds = omega (arith, at.within) in
-          ap (after_rounds rest.locals) rounds
-          ∙ ap (behind (kept + 1 - left)) (sym (first_round loop refs (locals_of n t) left more (rw something at (changing.same n below))))
-          ∙ at.same n below;
-    }
-
--- what answers every need of a loop's function
-pub ruleset settling_needs = (rules, inside_still, settling_begins, settling_stops, settling_goes_on, settling_ends, not-true, not-false)
+-- where the last round is done, none is left
+pub settling_ends : {loop : Loop} {refs : List Reference} {locals t : List ℕ} {kept next : ℕ} → Settling loop refs locals kept t (next + 1) → kept + 1 ≤ next → next ≤ kept + 1
+    → Settles loop refs locals t kept (kept + 1)
+unfolding settle
+settling_ends {loop} {refs} {t = t} {kept = kept} {next = next} at many few = record {
+  few = omega arith;
+  same = λ n below.
+      let none_left : kept + 2 - (next + 1) ≡ 0 = omega arith in
+      let all : kept + 1 ≡ next + 1 - 1 + 0 = omega arith in
+      ap (after_rounds (locals_of n t)) all ∙ rw none_left at (at.same n below);
+}

@@ -2,10 +2,9 @@
 use Prim.Native.Nat.{ℕ, ◌+◌, ◌*◌, ◌≤◌, ◌<◌}
 use mathlib.Core.Bool.{Bool, false, ◌||◌}
 use mathlib.Core.List.{List, [], ◌∷◌}
-use mathlib.Core.Path.{◌≡◌, refl, sym, ap, ◌∙◌}
+use mathlib.Core.Path.{◌≡◌, sym, ap, ◌∙◌}
 use native.Mathlib.Numerals.{add-one}
 use native.Mathlib.Omega.{arith}
-use borrow.Author.Rules.{rules}
 use lib.ListN.{length, drop_of_length-le}
 use lib.Seq.{drop-cons}
 use Rattle.rules.specs.Settling.{Round, Loop, one_round}
@@ -14,7 +13,7 @@ use Rattle.table_references.specs.Meaning.{reference, refers, references_of, ref
 use Rattle.table_references.specs.declared.Reference.{Reference}
 use Rattle.table_references.proofs.Keeping.{length_references}
 use Rattle.settling.specs.Meaning.{references_between, Below, Inside, round, Propagates, OneRound}
-use Rattle.settling.proofs.Propagating.{Ors, loop_ors}
+use Rattle.settling.specs.Changed.{Ors}
 
 -- The references that are left
 
@@ -37,9 +36,6 @@ pub record Turn (loop : Loop) (references locals : List ℕ) (from to : ℕ) (t 
   pub left_below : (n : ℕ) → Below n (references_between from to references) → Below n (references_between k to references)
   pub same : (n : ℕ) → Below n (references_between from to references)
       → one_round loop (references_between k to references) (round (locals_of n t) changed) ≡ one_round loop (references_between from to references) (round (locals_of n locals) false)
-
-pub round_begins : {loop : Loop} {references locals : List ℕ} {from to : ℕ} → Turn loop references locals from to locals false from
-round_begins = record { size = refl; left_below = λ n below. below; same = λ n below. refl }
 
 module _ {loop : Loop} {references locals : List ℕ} {from to : ℕ} {t : List ℕ} {changed : Bool} {k : ℕ} (at : Turn loop references locals from to t changed k) where
   pub round_ends : to ≤ k → OneRound loop (references_between from to references) locals t changed
@@ -74,6 +70,3 @@ module _ {loop : Loop} {references locals : List ℕ} {from to : ℕ} {t : List 
           ∙ ap (λ refs. one_round loop refs (round (locals_of n t) changed)) (sym next)
           ∙ at.same n below;
     }
-
--- what answers every need of a round's function
-pub ruleset round_needs = (rules, round_begins, round_goes_on, round_ends, loop_ors)

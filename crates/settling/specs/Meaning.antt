@@ -1,16 +1,9 @@
 -- What one reference, one round and a whole loop do to a lent table: what the rules' do to its locals. Assumes nothing.
 use Rattle.std.specs.Prelude.{ℕ, ◌+◌, ◌*◌, ◌≤◌, ◌<◌, Bool, false, List, [], ◌∷◌, ◌≡◌, length, drop}
 use Rattle.rules.specs.Locals.{LocalDefinition}
-use Rattle.rules.specs.Settling.{Reference, Round, Loop, propagate_analysis, propagate_use, one_round, Settled, settled}
+use Rattle.rules.specs.Settling.{Reference, Round, Loop, one_round, Settled, settled}
 use Rattle.table_locals.specs.Meaning.{locals_of}
 use Rattle.table_references.specs.Meaning.{reference, references_of}
-use Rattle.settling.specs.declared.LoopKind.{LoopKind}
-use Rattle.settling.specs.declared.LoopKind.TheVariants.{Analysis, Use}
-
--- the rules' loop that one is
-abbrev pub loop_of : LoopKind → Loop
-loop_of Analysis = propagate_analysis
-loop_of Use = propagate_use
 
 -- the references of the entries from `from` up to `to`
 unfoldable pub references_between : (from to : ℕ) → List ℕ → List Reference

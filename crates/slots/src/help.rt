@@ -1,5 +1,4 @@
 // The help, and the room that it tells of.
-use slots_text::text::fill;
 use std::io;
 
 // The longest tree and the longest output, in bytes, and the room for diagnostics.
@@ -14,8 +13,9 @@ pub const LIMIT: u32 = 4096;
 
 pub const TABLE: usize = 65536;
 
-// Each `#` is one of the numbers above.
-const HELP: [u8; 1066] = *b"\
+pub fn show_help(rt: &impl Print) -> io::Result<()> {
+    print!(rt;
+        "\
 slots [-q] FILE..: what the analyser finds in packed trees, in words\n\
 \n\
 -q leaves out the records of the files behind it. -h or --help prints this help.\n\
@@ -32,14 +32,8 @@ the record in the tree.\n\
 The last line counts the files: clean (no error), with errors, refused, not read.\n\
 The exit status says nothing: it is 0 whatever was found.\n\
 \n\
-Room: a tree of # bytes, an output of # bytes, diagnostics of # bytes.\n\
-Limits: # each of live locals (L), open frames (F), captures in them (C) and\n\
-references kept in them (R). The library for C takes what it is lent.\n";
-
-pub fn show_help(rt: &impl Print) -> io::Result<()> {
-    fill(
-        rt,
-        &HELP,
-        &[TREE as u64, OUT as u64, DIAGNOSTICS as u64, LIMIT as u64],
+Room: a tree of {TREE} bytes, an output of {OUT} bytes, diagnostics of {DIAGNOSTICS} bytes.\n\
+Limits: {LIMIT} each of live locals (L), open frames (F), captures in them (C) and\n\
+references kept in them (R). The library for C takes what it is lent.\n"
     )
 }

@@ -8,21 +8,20 @@ mod refusals;
 mod report;
 
 use call_root::AnalysisReport;
-use files::{Reading, read_file, show_unread};
+use files::read_file;
 use help::{DIAGNOSTICS, LIMIT, OUT, TABLE, TREE, show_help};
-use refusals::show_refusal;
+use refusals::Refusal;
 use report::show_report;
 use slots_text::diagnostics::show_diagnostics;
 use slots_text::layout::show_records;
 use slots_text::parts::front;
-use slots_text::text::{fill, say};
 use state::Limits;
 use std::env::{Env, FillError};
 use std::io;
 use std::rt::Files;
 
 // What became of one file.
-#[derive(Drop)]
+#[derive(Clone, Copy, PartialEq, Eq, Debug)]
 enum Outcome {
     Clean,
     WithErrors,
@@ -31,7 +30,7 @@ enum Outcome {
 }
 
 // Whether records are left out from here on, and what became of the files so far.
-#[derive(Drop)]
+#[derive(Clone, Copy, PartialEq, Eq, Debug, Default)]
 struct Run {
     quiet: bool,
     clean: u64,
@@ -41,29 +40,26 @@ struct Run {
 }
 
 impl Run {
-    fn counted(mut self, outcome: Outcome) -> Run {
-        match outcome {
-            Outcome::Clean => self.clean = std::num::wrapping_add_u64(self.clean, 1),
-            Outcome::WithErrors => {
-                self.with_errors = std::num::wrapping_add_u64(self.with_errors, 1)
-            }
-            Outcome::Refused => self.refused = std::num::wrapping_add_u64(self.refused, 1),
-            Outcome::Unread => self.unread = std::num::wrapping_add_u64(self.unread, 1),
-        }
-        self
+    fn count(&mut self, outcome: Outcome) {
+        let counter = match outcome {
+            Outcome::Clean => &mut self.clean,
+            Outcome::WithErrors => &mut self.with_errors,
+            Outcome::Refused => &mut self.refused,
+            Outcome::Unread => &mut self.unread,
+        };
+        *counter = counter.wrapping_add(1);
     }
 }
 
-fn limits() -> Limits {
-    Limits {
-        max_locals: LIMIT,
-        max_frames: LIMIT,
-        max_captures: LIMIT,
-        max_references: LIMIT,
-    }
-}
+const LIMITS: Limits = Limits {
+    max_locals: LIMIT,
+    max_frames: LIMIT,
+    max_captures: LIMIT,
+    max_references: LIMIT,
+};
 
-// The analysis, with working tables of its own.
+// The analysis, with working tables of its own, which lie on the stack only while it runs: so it isn't inlined.
+#[inline(never)]
 fn analysed(tree: &[u8], out: &mut [u8], diagnostics: &mut [u8]) -> AnalysisReport {
     let mut locals = [0u32; TABLE];
     let mut frames = [0u32; TABLE];
@@ -77,7 +73,7 @@ fn analysed(tree: &[u8], out: &mut [u8], diagnostics: &mut [u8]) -> AnalysisRepo
         &mut frames,
         &mut captures,
         &mut references,
-        limits(),
+        LIMITS,
     )
 }
 
@@ -86,7 +82,10 @@ fn on_tree(rt: &impl Print, tree: &[u8], quiet: bool) -> io::Result<Outcome> {
     let mut diagnostics = [0u8; DIAGNOSTICS];
     let r = analysed(tree, &mut out, &mut diagnostics);
     if r.number != 0 {
-        show_refusal(rt, r.number, r.place)?;
+        rt.println(Refusal {
+            number: r.number,
+            place: r.place,
+        })?;
         return Ok(Outcome::Refused);
     }
     let records = show_records(rt, front(&out, r.out_length), !quiet)?;
@@ -100,80 +99,62 @@ fn on_tree(rt: &impl Print, tree: &[u8], quiet: bool) -> io::Result<Outcome> {
 }
 
 fn on_file(rt: &(impl Files + Input + Print), name: &[u8], quiet: bool) -> io::Result<Outcome> {
-    say(rt, b"== ")?;
-    say(rt, name)?;
-    say(rt, b"\n")?;
+    rt.write_all(b"== ")?;
+    rt.write_all(name)?;
+    rt.write_all(b"\n")?;
     let mut bytes = [0u8; TREE];
-    let r = read_file(rt, name, &mut bytes);
-    match r {
-        Reading::Whole(n) => return on_tree(rt, front(&bytes, n), quiet),
-        Reading::TooLong => fill(rt, b"not read: longer than # bytes\n", &[TREE as u64])?,
-        Reading::Unopened(error) => show_unread(rt, b"not opened: ", error)?,
-        Reading::Broken(error) => show_unread(rt, b"not read: ", error)?,
+    match read_file(rt, name, &mut bytes) {
+        Ok(n) => on_tree(rt, front(&bytes, n), quiet),
+        Err(error) => {
+            println!(rt; "{error}")?;
+            Ok(Outcome::Unread)
+        }
     }
-    Ok(Outcome::Unread)
 }
 
 // An option, or the name of a file.
-fn on_word(rt: &(impl Files + Input + Print), word: &[u8], run: Run) -> io::Result<Run> {
-    if word == b"-h".as_slice() || word == b"--help".as_slice() {
-        show_help(rt)?;
-        return Ok(run);
+fn on_word(rt: &(impl Files + Input + Print), word: &[u8], run: &mut Run) -> io::Result<()> {
+    match word {
+        b"-h" | b"--help" => return show_help(rt),
+        b"-q" => run.quiet = true,
+        _ => run.count(on_file(rt, word, run.quiet)?),
     }
-    if word == b"-q".as_slice() {
-        let mut quiet = run;
-        quiet.quiet = true;
-        return Ok(quiet);
-    }
-    let outcome = on_file(rt, word, run.quiet)?;
-    Ok(run.counted(outcome))
+    Ok(())
 }
 
-fn on_argument(rt: &(impl Env + Files + Input + Print), i: usize, run: Run) -> io::Result<Run> {
+fn on_argument(rt: &(impl Env + Files + Input + Print), i: usize, run: &mut Run) -> io::Result<()> {
     let mut word = [0u8; 4096];
     match rt.arg(i, &mut word) {
         Ok(n) => on_word(rt, &word[..n], run),
         Err(_) => {
-            fill(rt, b"not read: argument # is too long\n", &[i as u64])?;
-            Ok(run.counted(Outcome::Unread))
+            println!(rt; "not read: argument {i} is too long")?;
+            run.count(Outcome::Unread);
+            Ok(())
         }
     }
 }
 
 // How many arguments there are, of which the first is the program's name.
 fn arg_count(rt: &impl Env) -> usize {
-    let mut word = [0u8; 1];
-    for i in 0..usize::MAX {
-        if let Err(FillError::NotPresent) = rt.arg(i, &mut word) {
-            return i;
-        }
-    }
-    usize::MAX
-}
-
-fn on_arguments(rt: &(impl Env + Files + Input + Print), count: usize) -> io::Result<Run> {
-    let mut run = Run {
-        quiet: false,
-        clean: 0,
-        with_errors: 0,
-        refused: 0,
-        unread: 0,
-    };
-    for i in 1..count {
-        run = on_argument(rt, i, run)?;
-    }
-    Ok(run)
+    (0..usize::MAX)
+        .find(|i| matches!(rt.arg(*i, &mut [0u8; 1]), Err(FillError::NotPresent)))
+        .unwrap_or(usize::MAX)
 }
 
 // The last line, where a file was named.
-fn show_totals(rt: &impl Print, run: Run) -> io::Result<()> {
-    if run.clean == 0 && run.with_errors == 0 && run.refused == 0 && run.unread == 0 {
+fn show_totals(rt: &impl Print, run: &Run) -> io::Result<()> {
+    let Run {
+        clean,
+        with_errors,
+        refused,
+        unread,
+        ..
+    } = *run;
+    if clean == 0 && with_errors == 0 && refused == 0 && unread == 0 {
         return Ok(());
     }
-    fill(
-        rt,
-        b"files: clean #, with errors #, refused #, not read #\n",
-        &[run.clean, run.with_errors, run.refused, run.unread],
+    println!(rt;
+        "files: clean {clean}, with errors {with_errors}, refused {refused}, not read {unread}"
     )
 }
 
@@ -182,5 +163,9 @@ fn main(rt: HostRuntime) -> io::Result<()> {
     if count < 2 {
         return show_help(&rt);
     }
-    show_totals(&rt, on_arguments(&rt, count)?)
+    let mut run = Run::default();
+    for i in 1..count {
+        on_argument(&rt, i, &mut run)?;
+    }
+    show_totals(&rt, &run)
 }

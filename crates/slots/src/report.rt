@@ -1,29 +1,20 @@
 // The report of an accepted tree in words.
 use call_root::AnalysisReport;
 use slots_text::diagnostics::Tally;
-use slots_text::text::{fill, say};
-use std::io;
-use value_depths::{AnalysisResult, NEVER};
+use std::{fmt, io};
+use value_depths::NEVER;
 
 // A depth, of which the greatest number stands for none.
-fn say_depth(rt: &impl Print, depth: u32) -> io::Result<()> {
-    if depth == NEVER {
-        say(rt, b" none")
-    } else {
-        fill(rt, b" #", &[depth as u64])
-    }
-}
+#[derive(Drop)]
+struct Depth(u32);
 
-fn show_depths(rt: &impl Print, d: AnalysisResult) -> io::Result<()> {
-    say(rt, b"depths: object")?;
-    say_depth(rt, d.object_dependent_depth)?;
-    say(rt, b", local")?;
-    say_depth(rt, d.local_dependent_depth)?;
-    fill(
-        rt,
-        b", greatest local #\n",
-        &[d.local_dependent_depth_max as u64],
-    )
+impl fmt::Display for Depth {
+    fn fmt<W: fmt::Write>(&self, f: &mut fmt::Formatter<W>) -> fmt::Result {
+        match self.0 {
+            NEVER => write!(f, "none"),
+            depth => write!(f, "{depth}"),
+        }
+    }
 }
 
 // The summary of an accepted tree.
@@ -34,21 +25,20 @@ pub fn show_report(
     records: usize,
     tally: Tally,
 ) -> io::Result<()> {
-    fill(
-        rt,
-        b"accepted: errors #, warnings #\nrounds #; ",
-        &[tally.errors, tally.warnings, r.rounds],
-    )?;
-    let depths = r.depths;
-    show_depths(rt, depths)?;
-    fill(
-        rt,
-        b"bytes: tree #, output # in # records, diagnostics #\n",
-        &[
-            tree_length as u64,
-            r.out_length as u64,
-            records as u64,
-            r.diagnostics_length as u64,
-        ],
+    let Tally { errors, warnings } = tally;
+    println!(rt; "accepted: errors {errors}, warnings {warnings}")?;
+    let AnalysisReport {
+        rounds,
+        depths,
+        out_length,
+        diagnostics_length,
+        ..
+    } = r;
+    let object = Depth(depths.object_dependent_depth);
+    let local = Depth(depths.local_dependent_depth);
+    let most = depths.local_dependent_depth_max;
+    println!(rt; "rounds {rounds}; depths: object {object}, local {local}, greatest local {most}")?;
+    println!(rt;
+        "bytes: tree {tree_length}, output {out_length} in {records} records, diagnostics {diagnostics_length}"
     )
 }

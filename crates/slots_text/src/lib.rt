@@ -6,4 +6,3 @@ pub mod diagnostics;
 pub mod layout;
 pub mod parts;
 pub mod records;
-pub mod text;

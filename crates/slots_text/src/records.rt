@@ -1,15 +1,18 @@
-// The table of the output's records: what each is called, its numbers by name, and how many parts it owns.
+// The records of an output: what each is called, its numbers by name, and how many parts it owns.
 ghost use Rattle.std.specs.Prelude.{◌<◌};
 
-use crate::parts::{behind, wide};
-use crate::text::{fill, row_of, say, two_digits};
+use crate::parts::behind;
 use bytes_read::{mark_at, number_at};
 use bytes_records::{
-    AP, AR, AS, AT, BI, BV, ER, FH, FN, IF, IM, IX, LO, NA, OB, OX, PA, PT, SC, UN,
+    AP, AR, AS, AT, BI, BV, ER, FH, FN, IF, IM, IX, LO, NA, OB, OX, PA, PT, SC, TV, UN,
 };
-use std::io;
+use std::fmt;
 
 // The marks that only an output has, as numbers: the first letter times 256, and the second.
+const LS: u32 = 0x4c53;
+
+const CS: u32 = 0x4353;
+
 const BL: u32 = 0x424c;
 
 const SU: u32 = 0x5355;
@@ -21,46 +24,6 @@ const IY: u32 = 0x4959;
 const FV: u32 = 0x4656;
 
 const SH: u32 = 0x5348;
-
-// A line for each record: its mark, what it is, and its numbers by name, each `#` its next number.
-const RECORDS: [u8; 765] = *b"\
-LS  local slot #\n\
-CS  capture #\n\
-SU  super\n\
-BL  bad place: kind #\n\
-TV  constant #\n\
-AC  constant array: items #:\n\
-AR  array: items #\n\
-OX  object extended\n\
-UN  unary: operator #\n\
-BI  binary: operator #\n\
-AS  assert: message #\n\
-LO  local: binds #\n\
-ER  error: span #\n\
-IM  import: kind #, span #, path #\n\
-AP  call: positional #, named #, tailstrict #, span #\n\
-NA  named argument: name #\n\
-IX  index: parts #\n\
-PT  part: span #\n\
-FN  function: named #, name #, parameters #\n\
-IY  identity function\n\
-IF  if: else #\n\
-SC  slice: set #\n\
-OB  object: this #, dollar #, super #, locals #, assertions #, fields #, static #\n\
-FH  field head: kind #, name #, plus #, visibility #\n\
-FV  field value\n\
-BV  bind: slot #\n\
-PA  parameter: name #, slot #, default #\n\
-AT  assertion: message #\n\
-SH  shape: # locals; captures:\n";
-
-// What it was that leads nowhere, by a bad place's kind.
-const BAD_PLACES: [u8; 50] = *b"\
-00 (self)\n\
-01 (super)\n\
-02 ($)\n\
-03 (name)\n\
-04 (import)\n";
 
 // How many numbers follow a mark, but for those that a constant array and a shape say.
 fn fields(mark: u32) -> usize
@@ -76,112 +39,181 @@ fn fields(mark: u32) -> usize
     }
 }
 
-// The bytes of the record that these begin with.
-pub fn size(record: &[u8]) -> usize {
-    let mark = mark_at(record, 0);
-    let fixed = 2 + 4 * fields(mark);
-    match mark {
-        AC => fixed + 4 * wide(number_at(record, 2)),
-        SH => fixed + 8 * wide(number_at(record, 6)),
-        _ => fixed,
+// What it was that leads nowhere, by a bad place's kind, which stays a number of the output.
+fn bad_place(kind: u32) -> &'static str {
+    match kind {
+        0 => " (self)",
+        1 => " (super)",
+        2 => " ($)",
+        3 => " (name)",
+        4 => " (import)",
+        _ => "",
     }
 }
 
-// How many parts stand directly before the record that these bytes begin with and are its own; a frame's shape is one.
-pub fn owned(record: &[u8]) -> usize {
-    let mark = mark_at(record, 0);
-    match mark {
-        UN | ER | NA | PT => 1,
-        OX | BI | FV | BV => 2,
-        AR | IX | AT => 1 + wide(number_at(record, 2)),
-        AS | IF | LO => 2 + wide(number_at(record, 2)),
-        AP => 1 + wide(number_at(record, 2)) + wide(number_at(record, 6)),
-        FN => 2 + wide(number_at(record, 10)),
-        SC => 1 + members(number_at(record, 2)),
-        OB => 1
-            + wide(number_at(record, 14))
-            + assertions(number_at(record, 18))
-            + 2 * wide(number_at(record, 22)),
-        FH => wide(number_at(record, 2)),
-        PA => 2 * wide(number_at(record, 10)),
-        _ => 0,
+// What a capture is taken from, by its kind in the output.
+fn source(kind: u32) -> &'static str {
+    match kind {
+        0 => "local",
+        _ => "capture",
     }
 }
 
 // How many of start, end and step a set has.
 fn members(set: u32) -> usize
-    ensures { result < 12884901888 }
+    ensures { result < 33 }
 {
-    wide(set % 2) + wide(set / 2 % 2) + wide(set / 4 % 2)
+    (set % 8).count_ones() as usize
 }
 
 // An object's assertions, and their shape where there are any.
 fn assertions(n: u32) -> usize
     ensures { result < 4294967297 }
 {
-    if n == 0 { 0 } else { 1 + wide(n) }
+    if n == 0 { 0 } else { 1 + n as usize }
 }
 
-// The first seven numbers of a record, of which none has more but those that a constant array and a shape say.
-fn numbers_of(record: &[u8]) -> [u64; 7] {
-    [
-        number_at(record, 2) as u64,
-        number_at(record, 6) as u64,
-        number_at(record, 10) as u64,
-        number_at(record, 14) as u64,
-        number_at(record, 18) as u64,
-        number_at(record, 22) as u64,
-        number_at(record, 26) as u64,
-    ]
-}
+// The record that these bytes begin with.
+#[derive(Clone, Copy)]
+pub struct Record<'a>(&'a [u8]);
 
-// The record that these bytes begin with, in words.
-pub fn describe(rt: &impl Print, record: &[u8]) -> io::Result<()> {
-    let mark = mark_at(record, 0);
-    fill(rt, row_of(&RECORDS, mark), &numbers_of(record))?;
-    match mark {
-        BL => say_kind(rt, number_at(record, 2)),
-        AC => say_constants(rt, record, number_at(record, 2)),
-        SH => say_captures(rt, record, number_at(record, 6)),
-        _ => Ok(()),
+impl<'a> Record<'a> {
+    pub fn at(out: &'a [u8], at: usize) -> Record<'a> {
+        Record(behind(out, at))
     }
-}
 
-fn say_kind(rt: &impl Print, kind: u32) -> io::Result<()> {
-    say(rt, behind(row_of(&BAD_PLACES, two_digits(kind)), 2))
-}
-
-fn say_constants(rt: &impl Print, record: &[u8], items: u32) -> io::Result<()> {
-    let mut next: usize = 6;
-    for _item in 0..items {
-        fill(rt, b" #", &[number_at(record, next) as u64])?;
-        next = std::num::wrapping_add_usize(next, 4);
+    fn mark(self) -> u32 {
+        mark_at(self.0, 0)
     }
-    Ok(())
-}
 
-// For each of a closure's captures, where it is taken from in the closure around it.
-fn say_captures(rt: &impl Print, record: &[u8], captures: u32) -> io::Result<()> {
-    if captures == 0 {
-        say(rt, b" none")?;
+    // The first of its numbers is 0.
+    fn number(self, i: u32) -> u32 {
+        number_at(self.0, 2 + 4 * i as usize)
     }
-    let mut next: usize = 10;
-    for i in 0..captures {
-        if i != 0 {
-            say(rt, b",")?;
+
+    fn count(self, i: u32) -> usize
+        ensures { result < 4294967296 }
+    {
+        self.number(i) as usize
+    }
+
+    // Its bytes.
+    pub fn size(self) -> usize {
+        let mark = self.mark();
+        let fixed = 2 + 4 * fields(mark);
+        match mark {
+            AC => fixed + 4 * self.count(0),
+            SH => fixed + 8 * self.count(1),
+            _ => fixed,
         }
-        say_source(rt, behind(record, next))?;
-        next = std::num::wrapping_add_usize(next, 8);
     }
-    Ok(())
+
+    // How many parts stand directly before it and are its own; a frame's shape is one.
+    pub fn owned(self) -> usize {
+        match self.mark() {
+            UN | ER | NA | PT => 1,
+            OX | BI | FV | BV => 2,
+            AR | IX | AT => 1 + self.count(0),
+            AS | IF | LO => 2 + self.count(0),
+            AP => 1 + self.count(0) + self.count(1),
+            FN => 2 + self.count(2),
+            SC => 1 + members(self.number(0)),
+            OB => 1 + self.count(3) + assertions(self.number(4)) + 2 * self.count(5),
+            FH => self.count(0),
+            PA => 2 * self.count(2),
+            _ => 0,
+        }
+    }
+
+    // Its first seven numbers, of which none has more but those that a constant array and a shape say.
+    fn numbers(self) -> [u32; 7] {
+        [0, 1, 2, 3, 4, 5, 6].map(|i| self.number(i))
+    }
+
+    fn write_constants<W: fmt::Write>(self, f: &mut fmt::Formatter<W>) -> fmt::Result {
+        let items = self.number(0);
+        write!(f, "AC  constant array: items {items}:")?;
+        for i in 0..items {
+            let constant = number_at(self.0, 6 + 4 * i as usize);
+            write!(f, " {constant}")?;
+        }
+        Ok(())
+    }
+
+    // For each of a closure's captures, where it is taken from in the closure around it.
+    fn write_captures<W: fmt::Write>(self, f: &mut fmt::Formatter<W>) -> fmt::Result {
+        let captures = self.number(1);
+        if captures == 0 {
+            return write!(f, " none");
+        }
+        for i in 0..captures {
+            if i != 0 {
+                write!(f, ",")?;
+            }
+            let at = 10 + 8 * i as usize;
+            let source = source(number_at(self.0, at));
+            let number = number_at(self.0, at + 4);
+            write!(f, " {source} {number}")?;
+        }
+        Ok(())
+    }
+
+    // A record that is no expression by itself, but a part of one.
+    fn write_part<W: fmt::Write>(self, f: &mut fmt::Formatter<W>) -> fmt::Result {
+        let [a, b, c, d, _, _, _] = self.numbers();
+        match self.mark() {
+            NA => write!(f, "NA  named argument: name {a}"),
+            PT => write!(f, "PT  part: span {a}"),
+            FH => write!(
+                f,
+                "FH  field head: kind {a}, name {b}, plus {c}, visibility {d}"
+            ),
+            FV => write!(f, "FV  field value"),
+            BV => write!(f, "BV  bind: slot {a}"),
+            PA => write!(f, "PA  parameter: name {a}, slot {b}, default {c}"),
+            AT => write!(f, "AT  assertion: message {a}"),
+            SH => {
+                write!(f, "SH  shape: {a} locals; captures:")?;
+                self.write_captures(f)
+            }
+            _ => Ok(()),
+        }
+    }
 }
 
-// A capture's source: 0 for a local and 1 for a capture, and its number.
-fn say_source(rt: &impl Print, pair: &[u8]) -> io::Result<()> {
-    let number = number_at(pair, 4) as u64;
-    if number_at(pair, 0) == 0 {
-        fill(rt, b" local #", &[number])
-    } else {
-        fill(rt, b" capture #", &[number])
+// The mark, what the record is, and its numbers by name.
+impl fmt::Display for Record<'_> {
+    fn fmt<W: fmt::Write>(&self, f: &mut fmt::Formatter<W>) -> fmt::Result {
+        let [a, b, c, d, e, g, h] = self.numbers();
+        match self.mark() {
+            LS => write!(f, "LS  local slot {a}"),
+            CS => write!(f, "CS  capture {a}"),
+            SU => write!(f, "SU  super"),
+            BL => write!(f, "BL  bad place: kind {a}{}", bad_place(a)),
+            TV => write!(f, "TV  constant {a}"),
+            AC => self.write_constants(f),
+            AR => write!(f, "AR  array: items {a}"),
+            OX => write!(f, "OX  object extended"),
+            UN => write!(f, "UN  unary: operator {a}"),
+            BI => write!(f, "BI  binary: operator {a}"),
+            AS => write!(f, "AS  assert: message {a}"),
+            LO => write!(f, "LO  local: binds {a}"),
+            ER => write!(f, "ER  error: span {a}"),
+            IM => write!(f, "IM  import: kind {a}, span {b}, path {c}"),
+            AP => write!(
+                f,
+                "AP  call: positional {a}, named {b}, tailstrict {c}, span {d}"
+            ),
+            IX => write!(f, "IX  index: parts {a}"),
+            FN => write!(f, "FN  function: named {a}, name {b}, parameters {c}"),
+            IY => write!(f, "IY  identity function"),
+            IF => write!(f, "IF  if: else {a}"),
+            SC => write!(f, "SC  slice: set {a}"),
+            OB => write!(
+                f,
+                "OB  object: this {a}, dollar {b}, super {c}, locals {d}, assertions {e}, fields {g}, static {h}"
+            ),
+            _ => self.write_part(f),
+        }
     }
 }

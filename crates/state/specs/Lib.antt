@@ -1,4 +1,3 @@
 -- What the contracts of the steps cite beside the rules.
 pub mod Seen
 pub mod Walks
-pub mod Converting

@@ -1,5 +1,6 @@
--- What the state and the six buffers mean: the rules' state. And what is kept of them between steps. Assumes nothing.
-use Rattle.std.specs.Prelude.{ℕ, ◌*◌, ◌≤◌, ◌<◌, List, length, take}
+-- What the answers of steps, the state and the six buffers mean: the rules' state. And what is kept of them between steps. Assumes nothing.
+use Rattle.std.specs.Prelude.{ℕ, ◌*◌, ◌≤◌, ◌<◌, List, ◌≡◌, length, take, Result, Ok, Err}
+use Rattle.refusal.specs.Meaning.{number_of}
 use Rattle.rules.specs.Outcome.{Outcome, ok, refuse}
 use Rattle.rules.specs.Records.{Span}
 use Rattle.rules.specs.State as rules
@@ -11,12 +12,19 @@ use Rattle.resolver.specs.Meaning.{frames_of}
 use Rattle.resolver.specs.Kept.{Kept}
 use Rattle.state.specs.declared.AnalysisStack.{AnalysisStack}
 use Rattle.state.specs.declared.Limits.{Limits}
-use Rattle.state.specs.declared.Step.{Step}
-use Rattle.state.specs.declared.Step.TheVariants.{Ok, Refused}
+use Rattle.refusal.specs.declared.Refusal.{Refusal}
+use Rattle.state.specs.declared.Lent.{Lent}
 
--- a span by its number, as the code has it
-abbrev pub span_of : ℕ → Span
-span_of span = record { number = span }
+-- the answers of steps and walks, by their names in the code
+
+abbrev pub Step : Type 0
+Step = Result AnalysisStack Refusal
+
+abbrev pub Walked : Type 0
+Walked = Result (AnalysisStack × ℕ) Refusal
+
+abbrev pub Specs : Type 0
+Specs = Result (AnalysisStack × ℕ × ℕ) Refusal
 
 -- the contents of the six buffers that are written to
 pub record Buffers : Type 0 where
@@ -30,6 +38,23 @@ pub record Buffers : Type 0 where
 abbrev pub buffers : (out diagnostics locals frames captures references : List ℕ) → Buffers
 buffers out diagnostics locals frames captures references =
     record { out = out; diagnostics = diagnostics; locals = locals; frames = frames; captures = captures; references = references }
+
+abbrev pub contents : Lent → Buffers
+contents lent = buffers lent.out.now lent.diagnostics.now lent.locals.now lent.frames.now lent.captures.now lent.references.now
+
+-- the same buffers are still lent, each as long as before
+abbrev pub SameBuffers : Lent → Lent → Type 0
+SameBuffers before after =
+    (after.out.ghost_name ≡ before.out.ghost_name) × (length after.out.now ≡ length before.out.now)
+    × (after.diagnostics.ghost_name ≡ before.diagnostics.ghost_name) × (length after.diagnostics.now ≡ length before.diagnostics.now)
+    × (after.locals.ghost_name ≡ before.locals.ghost_name) × (length after.locals.now ≡ length before.locals.now)
+    × (after.frames.ghost_name ≡ before.frames.ghost_name) × (length after.frames.now ≡ length before.frames.now)
+    × (after.captures.ghost_name ≡ before.captures.ghost_name) × (length after.captures.now ≡ length before.captures.now)
+    × (after.references.ghost_name ≡ before.references.ghost_name) × (length after.references.now ≡ length before.references.now)
+
+-- a span by its number, as the code has it
+abbrev pub span_of : ℕ → Span
+span_of span = record { number = span }
 
 -- the rules' state that they hold
 unfoldable pub stack : Buffers → AnalysisStack → rules.AnalysisStack
@@ -50,7 +75,7 @@ stack b st = record {
 -- what a step's answer means over the buffers that it leaves
 abbrev pub seen : Step → Buffers → Outcome rules.AnalysisStack
 seen (Ok st) b = ok (stack b st)
-seen (Refused number place) b = refuse number place
+seen (Err why) b = refuse (number_of why.reason) why.place
 
 -- the rules' limits, with the lengths of both byte buffers
 unfoldable pub limits_of : Limits → (out diagnostics : List ℕ) → rules.Limits
@@ -82,4 +107,4 @@ pub record Fit (l : Limits) (b : Buffers) (st : AnalysisStack) : Type 0 where
 -- an answer's state fits the buffers that it leaves; a refusal's need not, because the caller clears them
 abbrev pub Fits : Limits → Step → Buffers → Type 0
 Fits l (Ok st) b = Fit l b st
-Fits l (Refused number place) b = Unit {0}
+Fits l (Err why) b = Unit {0}

@@ -1,18 +1,14 @@
 -- What the answers of walks mean, where an expression stands and what a function is called; and the statement that every walk and step of the
 -- analysis makes: the rules' step, on the state that the buffers hold. Assumes nothing.
-use Rattle.std.specs.Prelude.{ℕ, ◌<◌, Bool, true, false, ◌≡◌}
+use Rattle.std.specs.Prelude.{ℕ, ◌<◌, Bool, true, false, ◌≡◌, Ok, Err}
 use Rattle.std.proofs.Math.Option.{Option, none, some}
+use Rattle.refusal.specs.Meaning.{number_of}
 use Rattle.rules.specs.Outcome.{Outcome, ok, refuse}
 use Rattle.rules.specs.State as rules
 use Rattle.rules.specs.Walk as walk
-use Rattle.state.specs.Seen.{span_of, Buffers, stack, seen, limits_of, Fit, Fits}
+use Rattle.state.specs.Seen.{Step, Walked, Specs, Buffers, span_of, stack, seen, limits_of, Fit, Fits}
 use Rattle.state.specs.declared.AnalysisStack.{AnalysisStack}
 use Rattle.state.specs.declared.Limits.{Limits}
-use Rattle.state.specs.declared.Step.{Step}
-use Rattle.state.specs.declared.Walked.{Walked}
-use Rattle.state.specs.declared.Walked.TheVariants as WalkedAs
-use Rattle.state.specs.declared.Specs.{Specs}
-use Rattle.state.specs.declared.Specs.TheVariants as specs_as
 use Rattle.state.specs.declared.Place.{Place}
 use Rattle.state.specs.declared.Naming.{Naming}
 use Rattle.state.specs.declared.Naming.TheVariants.{Unnamed, AsBind, AsMethod, AsComputedMethod}
@@ -42,21 +38,21 @@ pub record Stands (h : Place) (st : AnalysisStack) : Type 0 where
 
 -- the state and the place after
 abbrev pub walked : Walked → Buffers → Outcome (rules.AnalysisStack × ℕ)
-walked (WalkedAs.To st next) b = ok (stack b st, next)
-walked (WalkedAs.Refused number place) b = refuse number place
+walked (Ok (st, next)) b = ok (stack b st, next)
+walked (Err why) b = refuse (number_of why.reason) why.place
 
 abbrev pub WalkedFits : Limits → Walked → Buffers → Type 0
-WalkedFits l (WalkedAs.To st next) b = Fit l b st
-WalkedFits l (WalkedAs.Refused number place) b = Unit {0}
+WalkedFits l (Ok (st, next)) b = Fit l b st
+WalkedFits l (Err why) b = Unit {0}
 
 -- how many are kept, the state and the place after
 abbrev pub specs : Specs → Buffers → Outcome (ℕ × (rules.AnalysisStack × ℕ))
-specs (specs_as.To st next kept) b = ok (kept, (stack b st, next))
-specs (specs_as.Refused number place) b = refuse number place
+specs (Ok (st, next, kept)) b = ok (kept, (stack b st, next))
+specs (Err why) b = refuse (number_of why.reason) why.place
 
 abbrev pub SpecsFits : Limits → Specs → Buffers → Type 0
-SpecsFits l (specs_as.To st next kept) b = Fit l b st
-SpecsFits l (specs_as.Refused number place) b = Unit {0}
+SpecsFits l (Ok (st, next, kept)) b = Fit l b st
+SpecsFits l (Err why) b = Unit {0}
 
 -- What a walk or a step answers, and leaves of the buffers b as b': the rules' step under the limits that they give
 

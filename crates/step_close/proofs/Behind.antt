@@ -14,15 +14,14 @@ use Rattle.state.specs.Seen.{Buffers, buffers, limits_of, Fit}
 use Rattle.state.specs.Walks.{Walks, Steps}
 use Rattle.state.specs.declared.AnalysisStack.{AnalysisStack}
 use Rattle.state.specs.declared.Limits.{Limits}
-use Rattle.state.specs.declared.Step.{Step}
-use Rattle.state.specs.declared.Step.TheVariants.{Ok, Refused}
-use Rattle.state.specs.declared.Walked.{Walked}
-use Rattle.state.specs.declared.Walked.TheVariants as WalkedAs
 use Rattle.step_write.specs.Answers.{Emitted}
 use Rattle.step_write.proofs.Laws.{limits_same}
 use Rattle.step_record.specs.Answers.{outer_use, leave_object, ObjectLeft}
 use Rattle.step_write.proofs.Emitting.{emitted_steps}
 use Rattle.step_emit.proofs.Laws.{Placed}
+use Rattle.std.specs.Prelude.{Ok, Err}
+use Rattle.refusal.specs.declared.Refusal.{Refusal}
+use Rattle.state.specs.Seen.{Step, Walked}
 
 -- A record after a step
 
@@ -46,10 +45,10 @@ module _ (first : Stepping) (l : Limits) (b b₁ : Buffers) (st : AnalysisStack)
         fit = placed.fit l b₂ later.fit;
       }
 
-  pub walks_nowhere : (then : rules.Limits → rules.AnalysisStack → Outcome (rules.AnalysisStack × ℕ)) {why p : ℕ} → r₁ ≡ Refused why p
-      → Walks (WalkedAs.Refused why p) l b b₁ st (λ limits S. first limits S >>= then limits)
+  pub walks_nowhere : (then : rules.Limits → rules.AnalysisStack → Outcome (rules.AnalysisStack × ℕ)) {why : Refusal} → r₁ ≡ Err why
+      → Walks (Err why) l b b₁ st (λ limits S. first limits S >>= then limits)
   unfolding ◌>>=◌
-  walks_nowhere then {why} {p} is =
+  walks_nowhere then is =
       let done = rw is at steps in
       record {
         same = λ limits at. ap (λ (o : Outcome rules.AnalysisStack). o >>= then limits) (done.same limits at);
@@ -70,14 +69,14 @@ module _ {l : Limits} {out out₁ diagnostics diagnostics₁ locals locals₁ fr
   abbrev to : List ℕ → Buffers
   to out₂ = buffers out₂ diagnostics₁ locals₁ frames captures₁ references
 
-  pub local_refused : {why p : ℕ} → r₁ ≡ Refused why p → Walks (WalkedAs.Refused why p) l b b₁ st (λ limits. finished_local limits place kept before next)
+  pub local_refused : {why : Refusal} → r₁ ≡ Err why → Walks (Err why) l b b₁ st (λ limits. finished_local limits place kept before next)
   unfolding finished_local
   local_refused is =
       walks_nowhere (λ limits. scoping.finish_frame limits place kept before) l b b₁ st finished
       (λ limits T. and_place next (writing.emit limits place LO (kept ∷ []) T)) is
 
-  pub object_refused : {why p : ℕ} (outermost : Bool) (outer : rules.ObjectUse) (assertions values : ℕ) (is_static : Bool) → r₁ ≡ Refused why p
-      → Walks (WalkedAs.Refused why p) l b b₁ st (λ limits. finished_object limits place outermost outer kept before assertions values is_static next)
+  pub object_refused : {why : Refusal} (outermost : Bool) (outer : rules.ObjectUse) (assertions values : ℕ) (is_static : Bool) → r₁ ≡ Err why
+      → Walks (Err why) l b b₁ st (λ limits. finished_object limits place outermost outer kept before assertions values is_static next)
   unfolding finished_object leave_object
   object_refused outermost outer assertions values is_static is =
       walks_nowhere (λ limits. scoping.finish_frame limits place kept before) l b b₁ st finished

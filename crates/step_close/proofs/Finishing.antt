@@ -18,13 +18,15 @@ use Rattle.state.specs.Seen.{Buffers, buffers, stack, seen, limits_of, Fit}
 use Rattle.state.specs.Walks.{Steps}
 use Rattle.state.specs.declared.AnalysisStack.{AnalysisStack}
 use Rattle.state.specs.declared.Limits.{Limits}
-use Rattle.state.specs.declared.Step.{Step}
-use Rattle.state.specs.declared.Step.TheVariants.{Ok, Refused}
 use Rattle.step_frame.specs.Answers.{FrameClosed}
 use Rattle.step_write.proofs.Laws.{limits_same}
 use Rattle.step_judge.specs.Answers.{SettledFrame, judge_frame, JudgedAll}
 use Rattle.table_references.proofs.Keeping.{length_references}
 use Rattle.step_close.specs.Answers.{forget_names, ForgottenNames}
+use Rattle.std.specs.Prelude.{Ok, Err}
+use Rattle.refusal.specs.declared.Refusal.{Refusal}
+use Rattle.refusal.specs.Meaning.{number_of}
+use Rattle.state.specs.Seen.{Step}
 
 -- Judging leaves the references
 
@@ -104,9 +106,9 @@ module _ {l : Limits} {out diagnostics locals locals' frames captures references
         → seen r b₂ ≡ judge_frame limits place (scoping.settle_frame propagate_use kept before (stack b st))
     judged_is limits at = (judged.steps l out captures references fit_settled).same limits at ∙ ap (judge_frame limits place) settled_is
 
-    pub frame_stopped : {why p : ℕ} → r ≡ Refused why p → Steps (Refused why p) l b b₂ st (λ limits. scoping.finish_frame limits place kept before)
-    frame_stopped {why} {p} is = record {
-      same = λ limits at. sym (stops limits place kept before (stack b st) why p (rw is at (judged_is limits at)));
+    pub frame_stopped : {why : Refusal} → r ≡ Err why → Steps (Err why) l b b₂ st (λ limits. scoping.finish_frame limits place kept before)
+    frame_stopped {why} is = record {
+      same = λ limits at. sym (stops limits place kept before (stack b st) (number_of why.reason) why.place (rw is at (judged_is limits at)));
       fit = tt;
     }
 

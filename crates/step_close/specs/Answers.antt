@@ -8,11 +8,10 @@ use Rattle.state.specs.Seen.{span_of, buffers, Fit}
 use Rattle.state.specs.Walks.{naming_of, Walks, Steps, Becomes}
 use Rattle.state.specs.declared.AnalysisStack.{AnalysisStack}
 use Rattle.state.specs.declared.Limits.{Limits}
-use Rattle.state.specs.declared.Step.{Step}
-use Rattle.state.specs.declared.Walked.{Walked}
 use Rattle.state.specs.declared.Naming.{Naming}
 use Rattle.step_judge.specs.Answers.{Settleable}
 use Rattle.step_record.specs.Answers.{outer_use}
+use Rattle.state.specs.Seen.{Step, Walked}
 
 -- the names of the frame on top are gone, and the references kept since there were `before` of them
 unfoldable pub forget_names : (before : ℕ) → rules.AnalysisStack → rules.AnalysisStack

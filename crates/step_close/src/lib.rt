@@ -2,13 +2,12 @@
 
 #![tactic(auto)]
 
-ghost use Rattle.std.specs.Prelude.{[], ◌∷◌, ◌≡◌, ◌+◌, ◌*◌, ◌≤◌, length, take, drop};
-ghost use Rattle.rules.specs.Numbers.{LS, same_bytes, record_bytes};
+ghost use Rattle.std.specs.Prelude.{◌≡◌, ◌*◌, ◌≤◌, length, take, drop};
 ghost use Rattle.law_runs.specs.Steps.{gives_argument};
 ghost use Rattle.step_close.specs.Answers.{ForgottenNames, Finishable, FrameFinished, LocalFinished, ObjectFinished, FunctionFinished};
 
-use settling::LoopKind;
-use state::{AnalysisStack, Limits, Naming, Step, Walked, walked_to};
+use settling::Use;
+use state::{AnalysisStack, Limits, Naming, Step, Walked};
 use step_frame::close_frame;
 use step_judge::{judge_all, settle_frame};
 use step_locals::first_in_frame;
@@ -21,10 +20,11 @@ fn forget_names(frames: &[u32], st: AnalysisStack, before: u32) -> AnalysisStack
     ensures { ForgottenNames result frames.now st before }
 {
     let first = first_in_frame(frames, st);
-    let mut after = st;
-    after.locals = first;
-    after.references = before;
-    after
+    AnalysisStack {
+        locals: first,
+        references: before,
+        ..st
+    }
 }
 
 // The frame on top ends: its names are settled, judged and forgotten, and its shape is written.
@@ -46,20 +46,15 @@ pub fn finish_frame(
     ensures { FrameFinished result out.old out.new diagnostics.old diagnostics.new locals.old locals.new frames.now
         captures.old captures.new references.now limits st at kept before }
 {
-    let settled = settle_frame(locals, references, st, kept, before, LoopKind::Use);
-    let judged = judge_all(diagnostics, locals, frames, settled, at);
-    match judged {
-        Step::Ok(after) => {
-            close_frame(
-                out,
-                frames,
-                captures,
-                forget_names(frames, after, before),
-                at,
-            )
-        }
-        Step::Refused(why, place) => Step::Refused(why, place),
-    }
+    let settled = settle_frame::<Use>(locals, references, st, kept, before);
+    let after = judge_all(diagnostics, locals, frames, settled, at)?;
+    close_frame(
+        out,
+        frames,
+        captures,
+        forget_names(frames, after, before),
+        at,
+    )
 }
 
 // The end of a local's frame, and its record.
@@ -82,7 +77,7 @@ pub fn finish_local(
     ensures { LocalFinished result out.old out.new diagnostics.old diagnostics.new locals.old locals.new frames.now
         captures.old captures.new references.now limits st at kept before next }
 {
-    let finished = finish_frame(
+    let after = finish_frame(
         out,
         diagnostics,
         locals,
@@ -94,11 +89,8 @@ pub fn finish_local(
         at,
         kept,
         before,
-    );
-    match finished {
-        Step::Ok(after) => walked_to(emit(out, after, at, b"LO", &[kept]), next),
-        Step::Refused(why, place) => Walked::Refused(why, place),
-    }
+    )?;
+    Ok((emit(out, after, at, b"LO", &[kept])?, next))
 }
 
 // The end of an object's frame, and its record.
@@ -122,7 +114,7 @@ pub fn finish_object(
         captures.old captures.new references.now limits st at object.outermost object.self_used object.super_used
         object.kept before object.assertions object.values object.is_static next }
 {
-    let finished = finish_frame(
+    let after = finish_frame(
         out,
         diagnostics,
         locals,
@@ -134,54 +126,19 @@ pub fn finish_object(
         at,
         object.kept,
         before,
-    );
-    match finished {
-        Step::Ok(after) => walked_to(leave_object(out, after, at, object), next),
-        Step::Refused(why, place) => Walked::Refused(why, place),
-    }
+    )?;
+    Ok((leave_object(out, after, at, object)?, next))
 }
 
-// Whether six bytes are the record of slot 0.
-fn is_first_slot(out: &[u8], at: usize) -> bool
-    requires { at + 6 ≤ length out.now }
-    ensures { result ≡ same_bytes (take 6 (drop at out.now)) (record_bytes LS (0 ∷ [])) }
-{
-    if out[at] != 0x4c {
-        return false;
-    }
-    if out[at + 1] != 0x53 {
-        return false;
-    }
-    if out[at + 2] != 0 {
-        return false;
-    }
-    if out[at + 3] != 0 {
-        return false;
-    }
-    if out[at + 4] != 0 {
-        return false;
-    }
-    out[at + 5] == 0
-}
-
-// Whether a function keeps one parameter, with no default, and its body is that one's slot.
+// Whether a function keeps one parameter, with no default, and its body is the record of that one's slot.
 fn gives_argument(out: &[u8], st: AnalysisStack, function: FunctionEnd) -> bool
     requires { st.out ≤ length out.now }
     ensures { result ≡ gives_argument function.defaults function.kept (drop function.body_start (take st.out out.now)) }
 {
-    if function.kept != 1 {
-        return false;
-    }
-    if function.defaults {
-        return false;
-    }
-    if st.out < function.body_start {
-        return false;
-    }
-    if st.out - function.body_start != 6 {
-        return false;
-    }
-    is_first_slot(out, function.body_start)
+    function.kept == 1
+        && !function.defaults
+        && function.body_start <= st.out
+        && &out[function.body_start..st.out] == b"LS\0\0\0\0".as_slice()
 }
 
 // The end of a function's frame, and its record.
@@ -207,7 +164,7 @@ pub fn finish_function(
         function.kept before function.defaults naming next }
 {
     let gives = gives_argument(out, st, function);
-    let finished = finish_frame(
+    let after = finish_frame(
         out,
         diagnostics,
         locals,
@@ -219,12 +176,9 @@ pub fn finish_function(
         at,
         function.kept,
         before,
-    );
-    match finished {
-        Step::Ok(after) => {
-            let named = name_function(out, diagnostics, after, at, function, naming, gives);
-            walked_to(named, next)
-        }
-        Step::Refused(why, place) => Walked::Refused(why, place),
-    }
+    )?;
+    Ok((
+        name_function(out, diagnostics, after, at, function, naming, gives)?,
+        next,
+    ))
 }

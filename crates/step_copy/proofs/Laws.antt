@@ -1,15 +1,18 @@
 -- Bytes of the tree copied after what was written: a record's are its own spelling, and a constant's value that of its number. Assumes nothing.
 use Prim.Native.Nat.{ℕ, zero, suc, ◌+◌, ◌*◌, ◌-◌, ◌≤◌, ◌<◌}
 use mathlib.Core.Bool.{true, false}
-use mathlib.Core.List.{List, [], ◌∷◌, ◌++◌}
+use mathlib.Core.List.{List, [], ◌∷◌, ◌++◌, append_assoc}
 use mathlib.Core.Path.{◌≡◌, refl, sym, ap, ◌∙◌}
-use native.Mathlib.Nat.{add-zero}
 use native.Mathlib.Numerals.{add-one}
 use native.Mathlib.Omega.{arith}
 use borrow.Author.Tests.{leb-true, leb-false}
-use lib.ListN.{length, get_or, set, take, drop, length-append, length-drop}
-use lib.Seq.{get_or-drop, drop-drop, take-add, take_at, take-suc, length-take-le, sets, sets-eq}
+use lib.ListN.{length, get_or, take, drop, length-append, length-drop}
+use lib.Seq.{take_at, length-take-le, sets, sets-eq, length-sets}
 use lib.Dec.{leb}
+use borrow.Rule.Slice.PartMut.{put_mid}
+use Rattle.std.specs.List.{between}
+use Rattle.std.proofs.lemmas.Slice.{put_mid-paste}
+use Rattle.std.proofs.lemmas.List.Edits.{paste_all}
 use Rattle.rules.specs.Outcome.{◌>>=◌}
 use Rattle.rules.specs.Numbers.{Mark, AC, code, code_at, mark_bytes, number_at, numbers_at, number_bytes, numbers_bytes, record_bytes}
 use Rattle.rules.specs.Records.{numbers_of, size_of}
@@ -19,8 +22,7 @@ use Rattle.rules.specs.Writing as writing
 use Rattle.rules.proofs.Lists.{Piece, piece_then}
 use Rattle.rules.proofs.Spelling.{numbers_spelled, mark_spelled}
 use Rattle.bytes_write.specs.Put.{put, Put}
-use Rattle.bytes_write.specs.declared.Written.{Written}
-use Rattle.bytes_write.specs.declared.Written.TheVariants as written_as
+use Rattle.std.specs.Prelude.{Option, Some, None}
 use Rattle.bytes_write.proofs.Laws.{sets_append, length_numbers_bytes, numbers_bytes_snoc}
 use Rattle.bytes_records.specs.Marks.{mark_of}
 use Rattle.law_runs.specs.Steps.{and_place, values_from, copied, constants_steps}
@@ -28,56 +30,25 @@ use Rattle.state.specs.Seen.{buffers, stack, Fit}
 use Rattle.state.specs.Walks.{Walks}
 use Rattle.state.specs.declared.AnalysisStack.{AnalysisStack}
 use Rattle.state.specs.declared.Limits.{Limits}
-use Rattle.state.specs.declared.Walked.TheVariants as WalkedAs
 use Rattle.state.proofs.Changing.{out_to}
 use Rattle.state.proofs.Fitting.{fit_beside}
 use Rattle.step_write.specs.Answers.{Behind}
 use Rattle.step_write.proofs.Laws.{put_behind, emit_wrote, emit_full, behind_more}
-use Rattle.step_copy.specs.Answers.{RecordCopied, ConstantsEmitted, Numbers}
+use Rattle.step_copy.specs.Answers.{RecordCopied, ConstantsEmitted}
+use Rattle.std.specs.Prelude.{Ok, Err}
+use Rattle.refusal.specs.Meaning.{refuses}
+use Rattle.refusal.specs.declared.Reason.TheVariants as reason
 
--- Bytes one after another
-
--- one byte more is copied
-pub byte_more : (l : List ℕ) (used : ℕ) (s : List ℕ) (at i n : ℕ) → i < n → at + n ≤ length s
-    → set (sets l used (take i (drop at s))) (used + i) (get_or s (at + i) 0) ≡ sets l used (take (i + 1) (drop at s))
-byte_more l used s at i n more within =
-    let inside : i < length (drop at s) = omega (arith, length-drop at s) in
-    let le : i ≤ length (drop at s) = omega arith in
-    let e : used + i ≡ used + length (take i (drop at s)) = omega (arith, length-take-le i (drop at s) le) in
-    ap (λ (x : ℕ). set (sets l used (take i (drop at s))) (used + i) x) (sym (get_or-drop at s i 0))
-    ∙ ap (λ (k : ℕ). set (sets l used (take i (drop at s))) k (get_or (drop at s) i 0)) e
-    ∙ sets_append l used (take i (drop at s)) (get_or (drop at s) i 0 ∷ [])
-    ∙ ap (λ (bs : List ℕ). sets l used bs) (sym (take-suc (drop at s) i 0 inside) ∙ ap (λ (k : ℕ). take k (drop at s)) (sym (add-one i)))
-
--- the first two, and the first four
-module _ (l : List ℕ) (to : ℕ) (s : List ℕ) (from : ℕ) where
-  first_byte : 0 < length s - from → set l to (get_or s from 0) ≡ sets l to (take 1 (drop from s))
-  first_byte some = rw (add-zero to, add-zero from) at (byte_more l to s from 0 1 (omega arith) (omega arith))
-
-  pub first_two : from + 2 ≤ length s → set (set l to (get_or s from 0)) (to + 1) (get_or s (from + 1) 0) ≡ sets l to (take 2 (drop from s))
-  first_two within = ap (λ (m : List ℕ). set m (to + 1) (get_or s (from + 1) 0)) (first_byte (omega arith)) ∙ byte_more l to s from 1 2 (omega arith) within
-
-  pub first_four : from + 4 ≤ length s
-      → set (set (set (set l to (get_or s from 0)) (to + 1) (get_or s (from + 1) 0)) (to + 2) (get_or s (from + 2) 0)) (to + 3) (get_or s (from + 3) 0) ≡ sets l to (take 4 (drop from s))
-  first_four within =
-      ap (λ (m : List ℕ). set (set m (to + 2) (get_or s (from + 2) 0)) (to + 3) (get_or s (from + 3) 0)) (first_two (omega arith))
-      ∙ ap (λ (m : List ℕ). set m (to + 3) (get_or s (from + 3) 0)) (byte_more l to s from 2 4 (omega arith) within)
-      ∙ byte_more l to s from 3 4 (omega arith) within
-
--- so many bytes more are copied
-pub bytes_more : (l : List ℕ) (used : ℕ) (s : List ℕ) (at i n : ℕ) → at + i ≤ length s
-    → sets (sets l used (take i (drop at s))) (used + i) (take n (drop (at + i) s)) ≡ sets l used (take (i + n) (drop at s))
-bytes_more l used s at i n within =
-    let long : length (take i (drop at s)) ≡ i = length-take-le i (drop at s) (omega (arith, length-drop at s)) in
-    let behind : used + i ≡ used + length (take i (drop at s)) = omega (arith, long) in
-    ap (λ (k : ℕ). sets (sets l used (take i (drop at s))) k (take n (drop (at + i) s))) behind
-    ∙ sets_append l used (take i (drop at s)) (take n (drop (at + i) s))
-    ∙ ap (λ (bs : List ℕ). sets l used bs) (ap (λ (rest : List ℕ). take i (drop at s) ++ take n rest) (sym (drop-drop i at s)) ∙ sym (take-add i n (drop at s)))
-
--- a record's bytes are those of its mark and of its numbers
-pub record_sized : (m : Mark) {size : ℕ} → size ≡ size_of m → Numbers 2 size
-unfolding size_of
-record_sized m is = record { count = numbers_of m; sized = is }
+-- a part of one list that was copied from another
+pub part_copied : (l s part : List ℕ) (to from n : ℕ) → part ≡ between from (from + n) s → to + n ≤ length l → from + n ≤ length s
+    → put_mid to (to + n - to) l part ≡ sets l to (take n (drop from s))
+part_copied l s part to from n is room there =
+    let bytes = take n (drop from s) in
+    let long : length bytes ≡ n = length-take-le n (drop from s) (omega (arith, length-drop from s)) in
+    let same : part ≡ bytes = is ∙ ap (λ (k : ℕ). take k (drop from s)) (omega arith) in
+    put_mid-paste to (to + n - to) l part bytes (length bytes) same (omega (arith, long)) refl
+    ∙ paste_all l to bytes (length bytes) refl
+    ∙ sym (sets-eq bytes l to (omega (arith, long)) ∙ append_assoc (take to l) bytes (drop (to + length bytes) l))
 
 -- What they spell
 
@@ -135,16 +106,16 @@ value_more l used s small at i n more within =
 -- Bytes that stand after what was written
 
 stored_behind : (before after : List ℕ) (used next : ℕ) (bytes : List ℕ) → after ≡ sets before used bytes → next ≡ used + length bytes → next ≤ length before
-    → Behind (written_as.To next) before after used bytes
+    → Behind (Some next) before after used bytes
 unfolding put
 stored_behind before after used next bytes stored is within =
-    put_behind (written_as.To next) before after used bytes (is, within, stored ∙ sets-eq bytes before used (omega arith))
+    put_behind (Some next) before after used bytes (is, within, stored ∙ sets-eq bytes before used (omega arith))
 
 -- and as a walk to the place after the record
 module _ (out : List ℕ) (st : AnalysisStack) (place behind : ℕ) (bytes ns : List ℕ) (m : Mark) (spelt : bytes ≡ record_bytes m ns)
     (l : Limits) (ds ls fs cs rs : List ℕ) (fit : Fit l (buffers out ds ls fs cs rs) st) where
-  wrote_walks : (out' : List ℕ) (next : ℕ) → length out' ≡ length out → Behind (written_as.To next) out out' st.out bytes
-      → Walks (WalkedAs.To (out_to next st) behind) l (buffers out ds ls fs cs rs) (buffers out' ds ls fs cs rs) st (λ limits s. and_place behind (writing.emit limits place m ns s))
+  wrote_walks : (out' : List ℕ) (next : ℕ) → length out' ≡ length out → Behind (Some next) out out' st.out bytes
+      → Walks (Ok ((out_to next st), behind)) l (buffers out ds ls fs cs rs) (buffers out' ds ls fs cs rs) st (λ limits s. and_place behind (writing.emit limits place m ns s))
   unfolding and_place ◌>>=◌
   wrote_walks out' next long wrote = record {
     same = λ limits is.
@@ -154,7 +125,7 @@ module _ (out : List ℕ) (st : AnalysisStack) (place behind : ℕ) (bytes ns : 
   }
 
   full_walks : length out < st.out + length bytes
-      → Walks (WalkedAs.Refused 9 place) l (buffers out ds ls fs cs rs) (buffers out ds ls fs cs rs) st (λ limits s. and_place behind (writing.emit limits place m ns s))
+      → Walks (Err (refuses reason.OutputFull place)) l (buffers out ds ls fs cs rs) (buffers out ds ls fs cs rs) st (λ limits s. and_place behind (writing.emit limits place m ns s))
   unfolding and_place ◌>>=◌
   full_walks full = record {
     same = λ limits is.
@@ -179,16 +150,17 @@ module _ (tree out : List ℕ) (st : AnalysisStack) (at next mark size : ℕ) (s
   long_bytes : length bytes ≡ size
   long_bytes = length-take-le size (drop at tree) (omega (arith, length-drop at tree))
 
-  pub record_copied : (out' : List ℕ) → length out' ≡ length out → out' ≡ sets out st.out bytes → leb (st.out + size) (length out) ≡ true
-      → RecordCopied (WalkedAs.To (out_to (st.out + size) st) next) tree out out' st at next mark
+  pub record_copied : (out' : List ℕ) → out' ≡ sets out st.out bytes → leb (st.out + size) (length out) ≡ true
+      → RecordCopied (Ok ((out_to (st.out + size) st), next)) tree out out' st at next mark
   unfolding copied
-  record_copied out' long stored room = record {
+  record_copied out' stored room = record {
     walks = λ l ds ls fs cs rs fit.
-        wrote_walks out st at next bytes (numbers_at tree (numbers_of m) (at + 2)) m spelt l ds ls fs cs rs fit out' (st.out + size) long
+        wrote_walks out st at next bytes (numbers_at tree (numbers_of m) (at + 2)) m spelt l ds ls fs cs rs fit out' (st.out + size)
+        (ap length stored ∙ length-sets out st.out bytes)
         (stored_behind out out' st.out (st.out + size) bytes stored (omega (arith, long_bytes)) (leb-true _ _ room));
   }
 
-  pub record_refused : leb (st.out + size) (length out) ≡ false → RecordCopied (WalkedAs.Refused 9 at) tree out out st at next mark
+  pub record_refused : leb (st.out + size) (length out) ≡ false → RecordCopied (Err (refuses reason.OutputFull at)) tree out out st at next mark
   unfolding copied
   record_refused none = record {
     walks = λ l ds ls fs cs rs fit.
@@ -199,9 +171,9 @@ module _ (tree out : List ℕ) (st : AnalysisStack) (at next mark size : ℕ) (s
 -- An array of constants
 
 -- where there is room, it is put
-put_there : (r : Written) (before after : List ℕ) (used : ℕ) (bytes : List ℕ) → Put r before after used bytes → used + length bytes ≤ length before → after ≡ put before used bytes
-put_there (written_as.To next) before after used bytes p room = p.2
-put_there written_as.NoRoom before after used bytes p room = absurd (omega (arith, p.0))
+put_there : (r : Option ℕ) (before after : List ℕ) (used : ℕ) (bytes : List ℕ) → Put r before after used bytes → used + length bytes ≤ length before → after ≡ put before used bytes
+put_there (Some next) before after used bytes p room = p.2
+put_there None before after used bytes p room = absurd (omega (arith, p.0))
 
 module _ (tree out : List ℕ) (st : AnalysisStack) (at n size : ℕ) (sized : size ≡ 6 + 4 * n) where
   abbrev values : List ℕ
@@ -221,22 +193,22 @@ module _ (tree out : List ℕ) (st : AnalysisStack) (at n size : ℕ) (sized : s
   long_values : length (numbers_bytes values) ≡ 4 * n
   long_values = omega (arith, length_numbers_bytes values, length_values tree n (at + 6))
 
-  pub constants_emitted : (r : Written) (middle out' : List ℕ) → Put r out middle st.out head → length middle ≡ length out → length out' ≡ length middle
+  pub constants_emitted : (r : Option ℕ) (middle out' : List ℕ) → Put r out middle st.out head → length middle ≡ length out → length out' ≡ length middle
       → out' ≡ sets middle (st.out + 6) (numbers_bytes values) → leb (st.out + size) (length out) ≡ true
-      → ConstantsEmitted (WalkedAs.To (out_to (st.out + size) st) (at + 6 + 6 * n)) tree out out' st at n
+      → ConstantsEmitted (Ok ((out_to (st.out + size) st), (at + 6 + 6 * n))) tree out out' st at n
   unfolding constants_steps
   constants_emitted r middle out' was_put long long' stored room =
       let within : st.out + size ≤ length out = leb-true _ _ room in
       let put_head = put_there r out middle st.out head was_put (omega (arith, long_head)) in
-      let first = put_behind (written_as.To (st.out + 6)) out middle st.out head (omega (arith, long_head), omega arith, put_head) in
+      let first = put_behind (Some (st.out + 6)) out middle st.out head (omega (arith, long_head), omega arith, put_head) in
       let rest = stored_behind middle out' (st.out + 6) (st.out + size) (numbers_bytes values) stored (omega (arith, long_values)) (omega arith) in
       record {
         walks = λ l ds ls fs cs rs fit.
             wrote_walks out st at (at + 6 + 6 * n) (head ++ numbers_bytes values) (n ∷ values) AC whole_spelt l ds ls fs cs rs fit out' (st.out + size) (long' ∙ long)
-            (behind_more (written_as.To (st.out + size)) out middle out' st.out (st.out + 6) head (numbers_bytes values) long first rest);
+            (behind_more (Some (st.out + size)) out middle out' st.out (st.out + 6) head (numbers_bytes values) long first rest);
       }
 
-  pub constants_refused : leb (st.out + size) (length out) ≡ false → ConstantsEmitted (WalkedAs.Refused 9 at) tree out out st at n
+  pub constants_refused : leb (st.out + size) (length out) ≡ false → ConstantsEmitted (Err (refuses reason.OutputFull at)) tree out out st at n
   unfolding constants_steps
   constants_refused none = record {
     walks = λ l ds ls fs cs rs fit.

@@ -8,39 +8,20 @@ ghost use Rattle.rules.specs.Numbers.{numbers_bytes, code, code_at};
 ghost use Rattle.rules.specs.Records.{size_of};
 ghost use Rattle.bytes_records.specs.Marks.{mark_of};
 ghost use Rattle.law_runs.specs.Steps.{values_from};
-ghost use Rattle.step_copy.specs.Answers.{RecordCopied, ConstantsEmitted, Numbers};
+ghost use Rattle.step_copy.specs.Answers.{RecordCopied, ConstantsEmitted};
 
 use bytes_records::{has_room, offsets, size_of};
 use bytes_write::put_record;
+use refusal::Reason;
 use state::{AnalysisStack, Walked};
 
-// Four bytes of the tree at a place of the output: all are read first, so that they are moved as one.
+// Four bytes of the tree at a place of the output.
+#[tactic(auto, using(crate::proofs::Laws::part_copied))]
 fn copy_four(out: &mut [u8], to: usize, tree: &[u8], from: usize)
     requires { (to + 4 ≤ length out.old) × (from + 4 ≤ length tree.now) }
     ensures { out.new ≡ sets out.old to (take 4 (drop from tree.now)) }
 {
-    let a = tree[from];
-    let b = tree[from + 1];
-    let c = tree[from + 2];
-    let d = tree[from + 3];
-    out[to] = a;
-    out[to + 1] = b;
-    out[to + 2] = c;
-    out[to + 3] = d;
-}
-
-// A record's n bytes after those that are used: its mark, and numbers of four bytes each.
-fn copy_bytes(out: &mut [u8], used: usize, tree: &[u8], at: usize, n: usize)
-    requires { (used + n ≤ length out.old) × (at + n ≤ length tree.now) × (Numbers 2 n) }
-    ensures { out.new ≡ sets out.old used (take n (drop at tree.now)) }
-{
-    out[used] = tree[at];
-    out[used + 1] = tree[at + 1];
-    let mut i = 2;
-    while i < n {
-        copy_four(out, used + i, tree, at + i);
-        i += 4;
-    }
+    out[to..to + 4].copy_from_slice(&tree[from..from + 4]);
 }
 
 // A record of the tree that is the output's too, or refusal 9.
@@ -58,12 +39,10 @@ pub fn copy_record(
     let size = size_of(mark);
     if has_room(out, st.out, size) {
         let end = st.out + size;
-        copy_bytes(out, st.out, tree, at, size);
-        let mut after = st;
-        after.out = end;
-        return Walked::To(after, next);
+        out[st.out..end].copy_from_slice(&tree[at..at + size]);
+        return Ok((AnalysisStack { out: end, ..st }, next));
     }
-    Walked::Refused(9, at)
+    Err(Reason::OutputFull.at(at))
 }
 
 // The values of n constants, of six bytes each, after the bytes that are used.
@@ -71,15 +50,13 @@ fn copy_values(out: &mut [u8], used: usize, tree: &[u8], at: usize, n: usize)
     requires { (used + 4 * n ≤ length out.old) × (at + 6 * n ≤ length tree.now) }
     ensures { out.new ≡ sets out.old used (numbers_bytes (values_from tree.now n at)) }
 {
-    let mut i = 0;
-    while i < n {
+    for i in 0..n {
         copy_four(
             out,
             used + 4 * i,
             tree,
             at + offsets::TV_SIZE * i + offsets::TV_CONSTANT,
         );
-        i += 1;
     }
 }
 
@@ -100,9 +77,7 @@ pub fn emit_constants(tree: &[u8], out: &mut [u8], st: AnalysisStack, at: usize,
             at + offsets::AR_SIZE,
             n,
         );
-        let mut after = st;
-        after.out = end;
-        return Walked::To(after, next);
+        return Ok((AnalysisStack { out: end, ..st }, next));
     }
-    Walked::Refused(9, at)
+    Err(Reason::OutputFull.at(at))
 }

@@ -22,14 +22,15 @@ use Rattle.state.specs.Seen.{span_of, buffers, stack, seen, limits_of, Fit, Fits
 use Rattle.state.specs.Walks.{Walks}
 use Rattle.state.specs.declared.AnalysisStack.{AnalysisStack}
 use Rattle.state.specs.declared.Limits.{Limits}
-use Rattle.state.specs.declared.Step.{Step}
-use Rattle.state.specs.declared.Step.TheVariants.{Ok, Refused}
-use Rattle.state.specs.declared.Walked.TheVariants as WalkedAs
 use Rattle.resolver.proofs.Laws.{length_frames}
 use Rattle.step_declare.specs.Defined.{DefinedLocal}
 use Rattle.step_write.proofs.Laws.{limits_same}
 use Rattle.step_declare.specs.Answers.{BindsThere, ParamsThere, Fitting, AfterParam, BindsDefined, ParamsDefined}
 use Rattle.step_declare.proofs.Reading.{first_bind, first_param, no_bind, no_param}
+use Rattle.std.specs.Prelude.{Ok, Err}
+use Rattle.refusal.specs.declared.Refusal.{Refusal}
+use Rattle.refusal.specs.Meaning.{number_of}
+use Rattle.state.specs.Seen.{Step}
 
 -- A frame stays open
 
@@ -56,8 +57,8 @@ module _ {r : Step} {d d' locals locals' frames frames' : List ℕ} {l : Limits}
       ≡ ok (stack (buffers out d' locals' frames' captures references) st')
   step_ok e out captures references = sym (defined.same out captures references) ∙ ap (λ (x : Step). seen x (buffers out d' locals' frames' captures references)) e
 
-  pub step_refused : {number at : ℕ} → r ≡ Refused number at → (out captures references : List ℕ)
-      → scoping.define_local (limits_of l out d) place name (span_of span) depth (stack (buffers out d locals frames captures references) st) ≡ refuse number at
+  pub step_refused : {why : Refusal} → r ≡ Err why → (out captures references : List ℕ)
+      → scoping.define_local (limits_of l out d) place name (span_of span) depth (stack (buffers out d locals frames captures references) st) ≡ refuse (number_of why.reason) why.place
   step_refused e out captures references = sym (defined.same out captures references) ∙ ap (λ (x : Step). seen x (buffers out d' locals' frames' captures references)) e
 
   step_open : {st' : AnalysisStack} → r ≡ Ok st' → 0 < st.frames → 0 < st'.frames
@@ -154,17 +155,17 @@ module _ (s : List ℕ) (Read : (levels n p : ℕ) → Type 0) (run : rules.Limi
 
     pub defining_stop : i < n → RefusesToo p → {r : Step} {d' locals' frames' : List ℕ}
         → DefinedLocal r d d' locals locals' frames frames' l st p (number_at s (p + 2)) (number_at s (p + 6)) depth
-        → (number place : ℕ) → r ≡ Refused number place → (levels : ℕ) → Read levels n at → (out captures references : List ℕ)
-        → Walks (WalkedAs.Refused number place) l (buffers out d₀ locals₀ frames₀ captures references) (buffers out d' locals' frames' captures references) st₀
+        → {why : Refusal} → r ≡ Err why → (levels : ℕ) → Read levels n at → (out captures references : List ℕ)
+        → Walks (Err why) l (buffers out d₀ locals₀ frames₀ captures references) (buffers out d' locals' frames' captures references) st₀
         (λ L st. run L levels n at depth st)
-    defining_stop lt too defined number place e levels read out captures references =
+    defining_stop lt too defined {why} e levels read out captures references =
         let k : n - i ≡ suc (n - (i + 1)) = omega arith in
         let same : limits_of l out d₀ ≡ limits_of l out d = sym (limits_same l out out d₀ d refl D.diagnostics_same) in
         record {
           same = λ L is. sym (ap (λ (L : rules.Limits). run L levels n at depth (stack (buffers out d₀ locals₀ frames₀ captures references) st₀)) is
               ∙ D.same levels read out captures references
               ∙ ap (λ (m : ℕ). run (limits_of l out d₀) levels m p depth (stack (buffers out d locals frames captures references) st)) k
-              ∙ too levels (n - (i + 1)) (left_more lt levels read) (limits_of l out d₀) depth (stack (buffers out d locals frames captures references) st) number place
+              ∙ too levels (n - (i + 1)) (left_more lt levels read) (limits_of l out d₀) depth (stack (buffers out d locals frames captures references) st) (number_of why.reason) why.place
               (ap (λ (L : rules.Limits). scoping.define_local L p (number_at s (p + 2)) (span_of (number_at s (p + 6))) depth (stack (buffers out d locals frames captures references) st)) same
               ∙ step_refused defined e out captures references));
           fit = tt;
@@ -172,7 +173,7 @@ module _ (s : List ℕ) (Read : (levels n p : ℕ) → Type 0) (run : rules.Limi
 
     pub defining_end : n ≤ i → ((levels p : ℕ) (L : rules.Limits) (depth : ℕ) (st : rules.AnalysisStack) → run L levels 0 p depth st ≡ ok (st, p))
         → (levels : ℕ) → Read levels n at → (out captures references : List ℕ) → Fit l (buffers out d₀ locals₀ frames₀ captures references) st₀
-        → Walks (WalkedAs.To st p) l (buffers out d₀ locals₀ frames₀ captures references) (buffers out d locals frames captures references) st₀
+        → Walks (Ok (st, p)) l (buffers out d₀ locals₀ frames₀ captures references) (buffers out d locals frames captures references) st₀
         (λ L st. run L levels n at depth st)
     defining_end le none levels read out captures references f =
         let e : n - i ≡ 0 = omega arith in
@@ -215,12 +216,12 @@ module _ {s d₀ locals₀ frames₀ d locals frames : List ℕ} {l : Limits} {s
   pub bind_there : i < n → BindsThere s n at → p + 10 ≤ length s
   bind_there lt there = (first_bind s there.levels _ _ (left_more s (BindsRead s) (binds_run s) D lt there.levels there.read)).fits
 
-  pub binds_stop : {d' locals' frames' : List ℕ} {r : Step} {number place : ℕ} → i < n
-      → DefinedLocal r d d' locals locals' frames frames' l st p (number_at s (p + 2)) (number_at s (p + 6)) depth → r ≡ Refused number place
-      → BindsDefined (WalkedAs.Refused number place) s d₀ d' locals₀ locals' frames₀ frames' l st₀ at n depth
-  binds_stop lt defined e = record { defined = λ levels read out captures references f. defining_stop s (BindsRead s) (binds_run s) D lt (binds_refuse s p) defined _ _ e levels read out captures references }
+  pub binds_stop : {d' locals' frames' : List ℕ} {r : Step} {why : Refusal} → i < n
+      → DefinedLocal r d d' locals locals' frames frames' l st p (number_at s (p + 2)) (number_at s (p + 6)) depth → r ≡ Err why
+      → BindsDefined (Err why) s d₀ d' locals₀ locals' frames₀ frames' l st₀ at n depth
+  binds_stop lt defined e = record { defined = λ levels read out captures references f. defining_stop s (BindsRead s) (binds_run s) D lt (binds_refuse s p) defined e levels read out captures references }
 
-  pub binds_end : n ≤ i → BindsDefined (WalkedAs.To st p) s d₀ d locals₀ locals frames₀ frames l st₀ at n depth
+  pub binds_end : n ≤ i → BindsDefined (Ok (st, p)) s d₀ d locals₀ locals frames₀ frames l st₀ at n depth
   binds_end le = record { defined = defining_end s (BindsRead s) (binds_run s) D le (no_bind s) }
 
 -- Parameters
@@ -257,12 +258,12 @@ module _ {s d₀ locals₀ frames₀ d locals frames : List ℕ} {l : Limits} {s
   pub param_named : i < n → ParamsThere s n at → p + 10 ≤ length s
   param_named lt there = omega (arith, param_there lt there)
 
-  pub params_stop : {d' locals' frames' : List ℕ} {r : Step} {number place : ℕ} → i < n
-      → DefinedLocal r d d' locals locals' frames frames' l st p (number_at s (p + 2)) (number_at s (p + 6)) depth → r ≡ Refused number place
-      → ParamsDefined (WalkedAs.Refused number place) s d₀ d' locals₀ locals' frames₀ frames' l st₀ at n depth
-  params_stop lt defined e = record { defined = λ levels read out captures references f. defining_stop s (ParamsRead s) (params_run s) D lt (params_refuse s p) defined _ _ e levels read out captures references }
+  pub params_stop : {d' locals' frames' : List ℕ} {r : Step} {why : Refusal} → i < n
+      → DefinedLocal r d d' locals locals' frames frames' l st p (number_at s (p + 2)) (number_at s (p + 6)) depth → r ≡ Err why
+      → ParamsDefined (Err why) s d₀ d' locals₀ locals' frames₀ frames' l st₀ at n depth
+  params_stop lt defined e = record { defined = λ levels read out captures references f. defining_stop s (ParamsRead s) (params_run s) D lt (params_refuse s p) defined e levels read out captures references }
 
-  pub params_end : n ≤ i → ParamsDefined (WalkedAs.To st p) s d₀ d locals₀ locals frames₀ frames l st₀ at n depth
+  pub params_end : n ≤ i → ParamsDefined (Ok (st, p)) s d₀ d locals₀ locals frames₀ frames l st₀ at n depth
   params_end le = record { defined = defining_end s (ParamsRead s) (params_run s) D le (no_param s) }
 
 -- what answers the needs of the two functions that define names, but for those that lie too far from their facts

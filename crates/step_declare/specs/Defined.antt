@@ -4,7 +4,7 @@ use Rattle.rules.specs.Scoping as rules
 use Rattle.state.specs.Seen.{span_of, buffers, stack, seen, limits_of, Fit, Fits}
 use Rattle.state.specs.declared.AnalysisStack.{AnalysisStack}
 use Rattle.state.specs.declared.Limits.{Limits}
-use Rattle.state.specs.declared.Step.{Step}
+use Rattle.state.specs.Seen.{Step}
 
 pub record DefinedLocal (r : Step) (diagnostics diagnostics' locals locals' frames frames' : List ℕ) (limits : Limits) (st : AnalysisStack) (place name span depth : ℕ) : Type 0 where
   pub same : (out captures references : List ℕ)

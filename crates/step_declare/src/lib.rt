@@ -13,7 +13,7 @@ use bytes_records::offsets;
 use bytes_skip::skip;
 use state::{AnalysisStack, Limits, Step, Walked};
 use step_locals::{define_new, is_taken};
-use step_write::{Level, report};
+use step_write::{Code, Level, report};
 
 // Error 2 where the frame on top has the name already; else 11, then 6, or the name is defined.
 fn define_local(
@@ -35,7 +35,15 @@ fn define_local(
         st place name span depth }
 {
     if is_taken(locals, frames, st, name) {
-        return report(diagnostics, st, place, Level::Error, 2, name, span);
+        return report(
+            diagnostics,
+            st,
+            place,
+            Level::Error,
+            Code::DefinedTwice as u32,
+            name,
+            span,
+        );
     }
     define_new(locals, frames, limits, st, place, name, span, depth)
 }
@@ -90,21 +98,11 @@ pub fn define_binds(
 {
     let mut p = at;
     let mut reached = st;
-    let mut i: u32 = 0;
-    while i < n {
-        let step = define_at(tree, diagnostics, locals, frames, limits, reached, p, depth);
-        match step {
-            Step::Ok(after) => {
-                reached = after;
-            }
-            Step::Refused(why, place) => {
-                return Walked::Refused(why, place);
-            }
-        }
+    for _ in 0..n {
+        reached = define_at(tree, diagnostics, locals, frames, limits, reached, p, depth)?;
         p = skip(tree, p + offsets::BIND_SIZE);
-        i += 1;
     }
-    Walked::To(reached, p)
+    Ok((reached, p))
 }
 
 // The place after the parameter at an offset, with its default.
@@ -137,19 +135,9 @@ pub fn define_params(
 {
     let mut p = at;
     let mut reached = st;
-    let mut i: u32 = 0;
-    while i < n {
-        let step = define_at(tree, diagnostics, locals, frames, limits, reached, p, depth);
-        match step {
-            Step::Ok(after) => {
-                reached = after;
-            }
-            Step::Refused(why, place) => {
-                return Walked::Refused(why, place);
-            }
-        }
+    for _ in 0..n {
+        reached = define_at(tree, diagnostics, locals, frames, limits, reached, p, depth)?;
         p = after_param(tree, p);
-        i += 1;
     }
-    Walked::To(reached, p)
+    Ok((reached, p))
 }

@@ -1,8 +1,7 @@
 -- Steps of the leaves as the walks' statements, and the place after a step. Assumes nothing.
 use Prim.Native.Nat.{ℕ, ◌+◌}
-use mathlib.Core.Bool.{true, false}
 use mathlib.Core.List.{List, [], ◌∷◌}
-use mathlib.Core.Path.{◌≡◌, refl, sym, ap, subst, ◌∙◌}
+use mathlib.Core.Path.{◌≡◌, refl, sym, ap, ◌∙◌}
 use Rattle.rules.specs.Outcome.{Outcome, ◌>>=◌, choose}
 use Rattle.rules.specs.Records.{span_numbers}
 use Rattle.rules.specs.Numbers.{IM, FH, code, mark_bytes, number_at, is_set}
@@ -12,15 +11,15 @@ use Rattle.rules.specs.Walk as walk
 use Rattle.law_runs.specs.Steps.{and_place, import_steps, head_written}
 use Rattle.state.specs.Seen.{span_of, Buffers, buffers, stack, seen, Fit, Fits}
 use Rattle.state.specs.Walks.{walked, WalkedFits, Walks, Steps}
-use Rattle.state.specs.Converting.{walked_to}
 use Rattle.state.specs.declared.AnalysisStack.{AnalysisStack}
 use Rattle.state.specs.declared.Limits.{Limits}
-use Rattle.state.specs.declared.Step.{Step}
-use Rattle.state.specs.declared.Step.TheVariants.{Ok, Refused}
-use Rattle.state.specs.declared.Walked.{Walked}
 use Rattle.step_write.specs.Answers.{Emitted, BadPlace}
 use Rattle.step_write.proofs.Emitting.{emitted_steps}
 use Rattle.step_emit.specs.Answers.{ImportAnalyzed, HeadEmitted}
+use Rattle.std.specs.Prelude.{Ok, Err}
+use Rattle.rules.proofs.Flags.{set_of, unset_of}
+use Rattle.refusal.specs.declared.Refusal.{Refusal}
+use Rattle.state.specs.Seen.{Step, Walked}
 
 -- Steps of the leaves
 
@@ -38,67 +37,62 @@ module _ {r : Step} {out out' diagnostics diagnostics' : List ℕ} {st : Analysi
 
 -- The place after
 
-walked_behind : (next : ℕ) (r : Step) (b : Buffers) → walked (walked_to next r) b ≡ and_place next (seen r b)
-unfolding walked_to and_place ◌>>=◌
-walked_behind next (Ok st) b = refl
-walked_behind next (Refused number place) b = refl
-
-fits_behind : (next : ℕ) (r : Step) (l : Limits) (b : Buffers) → Fits l r b → WalkedFits l (walked_to next r) b
-unfolding walked_to
-fits_behind next (Ok st) l b fit = fit
-fits_behind next (Refused number place) l b fit = tt
-
 -- a step's answer with the place after, whatever the buffers hold
 pub record Placed (r : Walked) (step : Step) (next : ℕ) : Type 0 where
   pub same : (b : Buffers) → walked r b ≡ and_place next (seen step b)
   pub fit : (l : Limits) (b : Buffers) → Fits l step b → WalkedFits l r b
 
-pub placed : {r : Walked} {step : Step} (next : ℕ) → r ≡ walked_to next step → Placed r step next
-placed {step = step} next e = rw e (record { same = walked_behind next step; fit = fits_behind next step })
+-- a state goes on there
+pub placed : {step : Step} {st : AnalysisStack} (next : ℕ) → step ≡ Ok st → Placed (Ok (st, next)) step next
+unfolding and_place ◌>>=◌
+placed next e = rw e record { same = λ b. refl; fit = λ l b fit. fit }
+
+-- a refusal has no place after
+pub refused : {step : Step} {why : Refusal} (next : ℕ) → step ≡ Err why → Placed (Err why) step next
+unfolding and_place ◌>>=◌
+refused next e = rw e record { same = λ b. refl; fit = λ l b fit. tt }
 
 module _ {r : Step} {w : Walked} (next : ℕ) {l : Limits} {b b' : Buffers} {st : AnalysisStack} where
   -- a step with the place after it is a walk, and so is what the rules make of the state by the same step
   pub walks_behind : {f : rules.Limits → rules.AnalysisStack → Outcome rules.AnalysisStack} (g : rules.Limits → rules.AnalysisStack → Outcome (rules.AnalysisStack × ℕ))
-      → w ≡ walked_to next r → Steps r l b b' st f → ((limits : rules.Limits) → and_place next (f limits (stack b st)) ≡ g limits (stack b st)) → Walks w l b b' st g
-  walks_behind g is steps agree = record {
-    same = λ limits e. ap (λ (x : Walked). walked x b') is ∙ walked_behind next r b' ∙ ap (and_place next) (steps.same limits e) ∙ agree limits;
-    fit = subst (λ (x : Walked). WalkedFits l x b') (sym is) (fits_behind next r l b' steps.fit);
+      → Placed w r next → Steps r l b b' st f → ((limits : rules.Limits) → and_place next (f limits (stack b st)) ≡ g limits (stack b st)) → Walks w l b b' st g
+  walks_behind g ends steps agree = record {
+    same = λ limits e. ends.same b' ∙ ap (and_place next) (steps.same limits e) ∙ agree limits;
+    fit = ends.fit l b' steps.fit;
   }
 
 -- Heads
 
 -- a head's numbers are the tree's, but for a computed name
 pub head_emitted : {r : Step} {w : Walked} {tree out out' : List ℕ} {st : AnalysisStack} {at : ℕ} (next : ℕ) {kind name method visibility : ℕ}
-    → Emitted r out out' st at (0x46 ∷ 0x48 ∷ []) (kind ∷ name ∷ method ∷ visibility ∷ []) → w ≡ walked_to next r
+    → Emitted r out out' st at (0x46 ∷ 0x48 ∷ []) (kind ∷ name ∷ method ∷ visibility ∷ []) → Placed w r next
     → kind ≡ number_at tree (at + 2) → name ≡ choose (is_set kind) (λ _. 0) (λ _. number_at tree (at + 6))
     → method ≡ number_at tree (at + 14) → visibility ≡ number_at tree (at + 18) → HeadEmitted w tree out out' st at next
 unfolding mark_bytes code head_written
-head_emitted {tree = tree} {at = at} next emitted is is_kind is_name is_method is_visibility = record {
+head_emitted {tree = tree} {at = at} next emitted ends is_kind is_name is_method is_visibility = record {
   walks = λ l ds ls fs cs rs fit.
-      walks_behind next (λ limits s. head_written limits tree at next s) is (emitted_steps emitted FH refl l ds ls fs cs rs fit)
+      walks_behind next (λ limits s. head_written limits tree at next s) ends (emitted_steps emitted FH refl l ds ls fs cs rs fit)
       (λ limits. rw (is_name, is_kind, is_method, is_visibility) refl);
 }
 
 -- Imports
 
 module _ {r : Step} {w : Walked} {tree out out' : List ℕ} {st : AnalysisStack} {at span flag : ℕ}
-    (is : w ≡ walked_to (at + 18) r) (is_span : span ≡ number_at tree (at + 6)) (is_flag : flag ≡ number_at tree (at + 10)) where
+    (ends : Placed w r (at + 18)) (is_span : span ≡ number_at tree (at + 6)) (is_flag : flag ≡ number_at tree (at + 10)) where
   pub literal_import : {which path : ℕ} {diagnostics : List ℕ} → Emitted r out out' st at (0x49 ∷ 0x4d ∷ []) (which ∷ span ∷ path ∷ [])
-      → which ≡ number_at tree (at + 2) → path ≡ number_at tree (at + 14) → is_set flag ≡ true → ImportAnalyzed w tree out out' diagnostics diagnostics st at
+      → which ≡ number_at tree (at + 2) → path ≡ number_at tree (at + 14) → (flag ≡ 0 → ⊥) → ImportAnalyzed w tree out out' diagnostics diagnostics st at
   unfolding mark_bytes code import_steps walk.use_import choose span_numbers
   literal_import {diagnostics = ds} emitted is_which is_path is_literal = record {
     walks = λ l ls fs cs rs fit.
-        walks_behind (at + 18) (λ limits s. import_steps limits tree at s) is (emitted_steps emitted IM refl l ds ls fs cs rs fit)
-        (λ limits. rw (← is_flag, is_literal, is_which, is_path, is_span) refl);
+        walks_behind (at + 18) (λ limits s. import_steps limits tree at s) ends (emitted_steps emitted IM refl l ds ls fs cs rs fit)
+        (λ limits. rw (← is_flag, set_of is_literal, is_which, is_path, is_span) refl);
   }
 
-  pub bad_import : {diagnostics diagnostics' : List ℕ} → BadPlace r out out' diagnostics diagnostics' st at 6 0 span 4 → is_set flag ≡ false
+  pub bad_import : {diagnostics diagnostics' : List ℕ} → BadPlace r out out' diagnostics diagnostics' st at 6 0 span 4 → flag ≡ 0
       → ImportAnalyzed w tree out out' diagnostics diagnostics' st at
   unfolding import_steps walk.use_import choose
   bad_import was_bad is_literal = record {
     walks = λ l ls fs cs rs fit.
-        walks_behind (at + 18) (λ limits s. import_steps limits tree at s) is (bad_steps was_bad l ls fs cs rs fit)
-        (λ limits. rw (← is_flag, is_literal, is_span) refl);
+        walks_behind (at + 18) (λ limits s. import_steps limits tree at s) ends (bad_steps was_bad l ls fs cs rs fit)
+        (λ limits. rw (← is_flag, unset_of is_literal, is_span) refl);
   }
-
--- a flag that was tested

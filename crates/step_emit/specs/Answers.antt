@@ -6,7 +6,7 @@ use Rattle.state.specs.Seen.{buffers, Fit}
 use Rattle.state.specs.Walks.{Walks}
 use Rattle.state.specs.declared.AnalysisStack.{AnalysisStack}
 use Rattle.state.specs.declared.Limits.{Limits}
-use Rattle.state.specs.declared.Walked.{Walked}
+use Rattle.state.specs.Seen.{Walked}
 
 -- Imports and heads
 

@@ -9,8 +9,8 @@ ghost use Rattle.step_emit.specs.Answers.{ImportAnalyzed, HeadEmitted};
 
 use bytes_read::number_at;
 use bytes_records::offsets;
-use state::{AnalysisStack, Step, Walked, walked_to};
-use step_write::{bad_place, emit};
+use state::{AnalysisStack, Walked};
+use step_write::{BadKind, Code, bad_place, emit};
 
 // The path of a literal import, or error 6 and a bad place.
 pub fn analyze_import(
@@ -30,14 +30,24 @@ pub fn analyze_import(
             span,
             number_at(tree, at + offsets::IM_PATH),
         ];
-        let written = emit(out, st, at, b"IM", &numbers);
-        return walked_to(written, at + offsets::IM_SIZE);
+        let st = emit(out, st, at, b"IM", &numbers)?;
+        return Ok((st, at + offsets::IM_SIZE));
     }
-    let bad = bad_place(out, diagnostics, st, at, 6, 0, span, 4);
-    walked_to(bad, at + offsets::IM_SIZE)
+    let st = bad_place(
+        out,
+        diagnostics,
+        st,
+        at,
+        Code::ImportComputed as u32,
+        0,
+        span,
+        BadKind::Import as u32,
+    )?;
+    Ok((st, at + offsets::IM_SIZE))
 }
 
 // The name in a field's head: none where it is computed.
+#[tactic(auto, using(rules::proofs::Flags::set_of, rules::proofs::Flags::unset_of), unfolding(rules::specs::Outcome::choose))]
 fn head_name(tree: &[u8], at: usize, kind: u32) -> u32
     requires { at + 26 ≤ length tree.now }
     ensures { result ≡ choose (is_set kind) (λ _. 0) (λ _. number_at tree.now (at + 6)) }
@@ -49,6 +59,7 @@ fn head_name(tree: &[u8], at: usize, kind: u32) -> u32
 }
 
 // A field's head, after its name where that is computed.
+#[tactic(auto, using(crate::proofs::Laws::head_emitted, crate::proofs::Laws::placed, crate::proofs::Laws::refused, std::proofs::lemmas::Result::err_from_is_err_and))]
 pub fn emit_head(tree: &[u8], out: &mut [u8], st: AnalysisStack, at: usize, next: usize) -> Walked
     requires { at + 26 ≤ length tree.now }
     ensures { HeadEmitted result tree.now out.old out.new st at next }
@@ -61,6 +72,5 @@ pub fn emit_head(tree: &[u8], out: &mut [u8], st: AnalysisStack, at: usize, next
         number_at(tree, at + offsets::FH_PLUS),
         number_at(tree, at + offsets::FH_VISIBILITY),
     ];
-    let written = emit(out, st, at, b"FH", &numbers);
-    walked_to(written, next)
+    Ok((emit(out, st, at, b"FH", &numbers)?, next))
 }

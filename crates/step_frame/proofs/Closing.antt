@@ -17,8 +17,7 @@ use Rattle.rules.specs.Writing.{pair_of, pairs_of, slot_number, shape_numbers}
 use Rattle.rules.specs.Writing as rules_writing
 use Rattle.bytes_write.proofs.Laws.{length_numbers_bytes}
 use Rattle.bytes_write.specs.Put.{Put}
-use Rattle.bytes_write.specs.declared.Written.{Written}
-use Rattle.bytes_write.specs.declared.Written.TheVariants.{To, NoRoom}
+use Rattle.std.specs.Prelude.{Option, Some, None}
 use Rattle.table_rows.specs.Entries.{number}
 use Rattle.table_captures.specs.Meaning.{slot_kind, captures_of}
 use Rattle.resolver.specs.Meaning.{frame_of, frames_of}
@@ -26,17 +25,19 @@ use Rattle.resolver.specs.Kept.{Kept}
 use Rattle.resolver.specs.Answers.{Closed}
 use Rattle.table_captures.proofs.Laws.{captures_more}
 use Rattle.resolver.proofs.Laws.{frames_top}
-use Rattle.resolver.proofs.Resolving.{log_is_sum}
+use Rattle.resolver.proofs.Resolving.{log_is_sum, none_before}
 use Rattle.state.specs.Seen.{buffers, stack, seen, limits_of}
 use Rattle.state.specs.declared.AnalysisStack.{AnalysisStack}
 use Rattle.state.specs.declared.Limits.{Limits}
-use Rattle.state.specs.declared.Step.{Step}
-use Rattle.state.specs.declared.Step.TheVariants.{Ok, Refused}
 use Rattle.state.proofs.Changing.{tables_to, out_to}
 use Rattle.state.proofs.Fitting.{fit_beside, fit_frames}
 use Rattle.step_write.specs.Answers.{Behind, Emitted}
 use Rattle.step_frame.specs.Answers.{shape_bytes, FrameClosed}
 use Rattle.step_write.proofs.Laws.{put_behind, behind_more, emit_wrote, emit_full}
+use Rattle.std.specs.Prelude.{Ok, Err}
+use Rattle.refusal.specs.Meaning.{refuses}
+use Rattle.refusal.specs.declared.Reason.TheVariants as reason
+use Rattle.state.specs.Seen.{Step}
 
 -- Two numbers: the two bytes before them are put again
 
@@ -48,17 +49,17 @@ two_more l from h =
     rw (e, add-one from) (take-suc l (suc from) 0 two ∙ ap (λ bs. bs ++ (get_or l (suc from) 0 ∷ [])) (take-suc l from 0 one)
     ∙ append_assoc (take from l) (get_or l from 0 ∷ []) (get_or l (suc from) 0 ∷ []))
 
-pub pair_behind : (r : Written) (before after : List ℕ) (used : ℕ) (bytes : List ℕ) → 2 ≤ used → used ≤ length before
+pub pair_behind : (r : Option ℕ) (before after : List ℕ) (used : ℕ) (bytes : List ℕ) → 2 ≤ used → used ≤ length before
     → Put r before after (used - 2) (get_or before (used - 2) 0 ∷ get_or before (used - 2 + 1) 0 ∷ bytes) → Behind r before after used bytes
-pair_behind (To next) before after used bytes two within p =
+pair_behind (Some next) before after used bytes two within p =
     let e : used - 2 + 2 ≡ used = omega arith in (
       omega (arith, p.0),
       p.1,
-      (put_behind (To next) before after (used - 2) _ p).2
+      (put_behind (Some next) before after (used - 2) _ p).2
           ∙ sym (append_assoc (take (used - 2) before) (get_or before (used - 2) 0 ∷ get_or before (used - 2 + 1) 0 ∷ []) bytes)
           ∙ ap (λ bs. bs ++ bytes) (sym (two_more before (used - 2) (omega arith)) ∙ ap (λ n. take n before) e),
     )
-pair_behind NoRoom before after used bytes two within p = omega (arith, p.0)
+pair_behind None before after used bytes two within p = omega (arith, p.0)
 
 -- Pairs
 
@@ -94,7 +95,7 @@ length_pairs_bytes owner i captures =
 pub record Pairing (before : List ℕ) (used : ℕ) (captures : List ℕ) (count owner : ℕ) (now : List ℕ) (to at : ℕ) : Type 0 where
   pub within : at ≤ count
   pub long : length now ≡ length before
-  pub written : Behind (To to) before now used (pairs_bytes owner at captures)
+  pub written : Behind (Some to) before now used (pairs_bytes owner at captures)
 
 module _ (before : List ℕ) (used : ℕ) (captures : List ℕ) (count owner : ℕ) where
   pub pairing_begin : (from : ℕ) → used ≤ length before → from ≤ count → captures_of owner from captures ≡ []
@@ -107,12 +108,6 @@ module _ (before : List ℕ) (used : ℕ) (captures : List ℕ) (count owner : �
   }
 
   module _ (now : List ℕ) (to at : ℕ) (p : Pairing before used captures count owner now to at) where
-    pub pairing_end : captures_of owner count captures ≡ captures_of owner at captures → Behind (To to) before now used (pairs_bytes owner count captures)
-    pairing_end e = rw e p.written
-
-    pub pairing_done : count ≤ at → Behind (To to) before now used (pairs_bytes owner count captures)
-    pairing_done le = pairing_end (ap (λ n. captures_of owner n captures) (omega (arith, p.within)))
-
     module _ (i target kind own : ℕ) (s : LSlot) (le : i ≤ count)
         (follows : captures_of owner i captures ≡ captures_of owner at captures ++ (record { target = target; source = s } ∷ []))
         (kind_is : kind ≡ slot_kind s) (own_is : own ≡ slot_number s) where
@@ -122,12 +117,12 @@ module _ (before : List ℕ) (used : ℕ) (captures : List ℕ) (count owner : �
           ∙ ap (λ ns. pairs_of (captures_of owner at captures) ++ ns) (pair_is s ∙ rw (kind_is, own_is) refl))
           ∙ numbers_bytes_append (pairs_of (captures_of owner at captures)) (kind ∷ own ∷ [])
 
-      pub pairing_next : (after : List ℕ) (end : ℕ) → length after ≡ length now → Behind (To end) now after to (numbers_bytes (kind ∷ own ∷ []))
+      pub pairing_next : (after : List ℕ) (end : ℕ) → length after ≡ length now → Behind (Some end) now after to (numbers_bytes (kind ∷ own ∷ []))
           → Pairing before used captures count owner after end i
       pairing_next after end long q = record {
         within = le;
         long = long ∙ p.long;
-        written = rw one_more (behind_more (To end) before now after used to (pairs_bytes owner at captures) (numbers_bytes (kind ∷ own ∷ [])) p.long p.written q);
+        written = rw one_more (behind_more (Some end) before now after used to (pairs_bytes owner at captures) (numbers_bytes (kind ∷ own ∷ [])) p.long p.written q);
       }
 
       -- where one pair has no room, all have none
@@ -145,6 +140,13 @@ module _ (before : List ℕ) (used : ℕ) (captures : List ℕ) (count owner : �
             captures_more owner i count captures le,
           )
 
+-- of the top frame's captures none stands before where they begin
+pub none_earlier : {n : ℕ} {frames : List ℕ} {count : ℕ} {captures : List ℕ} {from : ℕ} → Kept n frames count captures → 0 < n → from ≡ number frames (n - 1) 3
+    → (16 * count ≤ length captures) × (from ≤ count) × (captures_of (n - 1) from captures ≡ [])
+none_earlier {n = n} kept some is =
+    let top : n - 1 < n = omega (arith, some) in
+    (kept.below.captures_fit, rw is (kept.below.from_within _ top), none_before _ _ _ _ _ _ kept.below top is)
+
 -- The shape: its record's first two numbers, and then the pairs
 
 module _ (n : ℕ) (frames : List ℕ) (count : ℕ) (captures : List ℕ) (pos : 0 < n) (n_locals k : ℕ)
@@ -156,13 +158,13 @@ module _ (n : ℕ) (frames : List ℕ) (count : ℕ) (captures : List ℕ) (pos 
   unfolding record_bytes mark_bytes code shape_numbers top frame_of numbers_bytes number_bytes
   shape_is = rw (frames_top frames count captures n pos, locals_are, counted) refl
 
-  pub shape_behind : (r : Written) (before middle after : List ℕ) (used next : ℕ) → length middle ≡ length before → Put (To next) before middle used head
+  pub shape_behind : (r : Option ℕ) (before middle after : List ℕ) (used next : ℕ) → length middle ≡ length before → Put (Some next) before middle used head
       → Behind r middle after next (pairs_bytes (n - 1) count captures)
       → Behind r before after used (shape_bytes n frames count captures)
   shape_behind r before middle after used next long p q =
-      rw shape_is (behind_more r before middle after used next head (pairs_bytes (n - 1) count captures) long (put_behind (To next) before middle used head p) q)
+      rw shape_is (behind_more r before middle after used next head (pairs_bytes (n - 1) count captures) long (put_behind (Some next) before middle used head p) q)
 
-  pub shape_full : (before middle : List ℕ) (used : ℕ) → Put NoRoom before middle used head
+  pub shape_full : (before middle : List ℕ) (used : ℕ) → Put None before middle used head
       → length before < used + length (shape_bytes n frames count captures)
   shape_full before middle used p = omega (arith, p.0, ap length shape_is, length-append head (pairs_bytes (n - 1) count captures))
 
@@ -213,7 +215,7 @@ module _ (out out' frames captures captures' : List ℕ) (st : AnalysisStack) (p
 
   module _ (next count : ℕ) (kept : Kept st.frames frames st.captures captures) (pos : 0 < st.frames)
       (long : length out' ≡ length out) (captures_long : length captures' ≡ length captures)
-      (written : Behind (To next) out out' st.out shape)
+      (written : Behind (Some next) out out' st.out shape)
       (closed : Closed st.frames frames st.captures captures count captures') where
     fewer : count ≤ st.captures
     fewer =
@@ -244,7 +246,7 @@ module _ (out out' frames captures captures' : List ℕ) (st : AnalysisStack) (p
     }
 
   pub frame_full : length out < st.out + length shape
-      → FrameClosed (Refused 9 place) out out' frames captures captures' st place
+      → FrameClosed (Err (refuses reason.OutputFull place)) out out' frames captures captures' st place
   unfolding stack
   frame_full full = record {
     same = λ l ds ls rs.

@@ -21,11 +21,13 @@ use Rattle.resolver.proofs.Laws.{below_or_top, length_frames}
 use Rattle.state.specs.Seen.{buffers, stack, seen, limits_of, Fit}
 use Rattle.state.specs.declared.AnalysisStack.{AnalysisStack}
 use Rattle.state.specs.declared.Limits.{Limits}
-use Rattle.state.specs.declared.Step.TheVariants.{Ok, Refused}
 use Rattle.state.proofs.Changing.{frames_to}
 use Rattle.state.proofs.Fitting.{fit_frames}
 use Rattle.step_frame.specs.Answers.{FrameOpened}
 use Rattle.step_write.proofs.Laws.{passes, fails}
+use Rattle.std.specs.Prelude.{Ok, Err}
+use Rattle.refusal.specs.Meaning.{refuses}
+use Rattle.refusal.specs.declared.Reason.TheVariants as reason
 
 -- the same frames have the same first locals
 first_same : (n : ℕ) (frames frames' : List ℕ) (count : ℕ) (captures : List ℕ)
@@ -81,7 +83,7 @@ module _ (l : Limits) (st : AnalysisStack) (place : ℕ) (is_defining : Bool) (b
     pub frame_opened : FrameOpened (Ok (frames_to (st.frames + 1) st)) before after l st place is_defining
     frame_opened = record { same = opened_same; fit = opened_fit }
 
-  pub frame_refused : l.max_frames ≤ st.frames → FrameOpened (Refused 7 place) before before l st place is_defining
+  pub frame_refused : l.max_frames ≤ st.frames → FrameOpened (Err (refuses reason.FrameLimit place)) before before l st place is_defining
   frame_refused le = record {
     same = λ out ds ls cs rs fit.
         sym (opens out ds ls cs rs ∙ fails (ltb st.frames l.max_frames) 7 place _ (le-ltb st.frames l.max_frames le));

@@ -8,7 +8,7 @@ use Rattle.resolver.specs.Meaning.{frames_of}
 use Rattle.state.specs.Seen.{buffers, stack, seen, limits_of, Fit, Fits}
 use Rattle.state.specs.declared.AnalysisStack.{AnalysisStack}
 use Rattle.state.specs.declared.Limits.{Limits}
-use Rattle.state.specs.declared.Step.{Step}
+use Rattle.state.specs.Seen.{Step}
 
 -- the record of the shape of the top of n frames
 abbrev pub shape_bytes : (n : ℕ) → (frames : List ℕ) → (count : ℕ) → (captures : List ℕ) → List ℕ

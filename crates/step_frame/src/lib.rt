@@ -10,13 +10,14 @@ ghost use Rattle.resolver.specs.Kept.{Kept};
 ghost use Rattle.step_write.specs.Answers.{Behind};
 ghost use Rattle.step_frame.specs.Answers.{shape_bytes, FrameOpened, FrameClosed};
 
-use bytes_write::{Written, put_record};
-use find_capture::Next;
+use bytes_write::put_record;
+use refusal::Reason;
 use state::{AnalysisStack, Limits, Step};
 use step_write::emit;
 use table_captures::{slot_kind, slot_number};
 
 // A frame on those that are open, or refusal 7.
+#[tactic(auto, using(crate::proofs::Opening::frame_opened, crate::proofs::Opening::frame_refused))]
 pub fn open_frame(
     frames: &mut [u32],
     limits: Limits,
@@ -29,16 +30,18 @@ pub fn open_frame(
 {
     let n = st.frames;
     if limits.max_frames <= n {
-        return Step::Refused(7, place);
+        return Err(Reason::FrameLimit.at(place));
     }
     resolver::push_frame(frames, n, is_defining, st.locals, 0, st.captures);
-    let mut after = st;
-    after.frames = n + 1;
-    Step::Ok(after)
+    Ok(AnalysisStack {
+        frames: n + 1,
+        ..st
+    })
 }
 
 // Two numbers after the bytes that were used. The two bytes before them are put again, because a record begins with two.
-fn put_pair(out: &mut [u8], used: usize, a: u32, b: u32) -> Written
+#[tactic(auto, using(crate::proofs::Closing::pair_behind))]
+fn put_pair(out: &mut [u8], used: usize, a: u32, b: u32) -> Option<usize>
     requires { (2 ≤ used) × (used ≤ length out.old) }
     ensures { Behind result out.old out.new used (numbers_bytes (a ∷ b ∷ [])) }
 {
@@ -55,7 +58,7 @@ fn put_pairs(
     from: u32,
     count: u32,
     owner: u32,
-) -> Written
+) -> Option<usize>
     requires le_used { (2 ≤ used) × (used ≤ length out.old) }
     requires count_in_bounds { (16 * count ≤ length captures.now) × (from ≤ count) × (captures_of owner from
         captures.now ≡ []) }
@@ -64,19 +67,11 @@ fn put_pairs(
 {
     let mut to = used;
     let mut at = from;
-    while at < count {
-        let next = find_capture::next_capture(captures, at, count, owner);
-        let Next::At(i, source) = next else {
-            return Written::To(to);
-        };
-        let written = put_pair(out, to, slot_kind(source), slot_number(source));
-        let Written::To(end) = written else {
-            return Written::NoRoom;
-        };
-        to = end;
+    while let Some((i, source)) = find_capture::next_capture(captures, at, count, owner) {
+        to = put_pair(out, to, slot_kind(source), slot_number(source))?;
         at = i;
     }
-    Written::To(to)
+    Some(to)
 }
 
 // The shape of the top of n frames after the bytes that were used.
@@ -87,7 +82,7 @@ fn put_shape(
     captures: &[u32],
     n: u32,
     count: u32,
-) -> Written
+) -> Option<usize>
     requires { (Kept n frames.now count captures.now) × (0 < n) }
     ensures { Behind result out.old out.new used (shape_bytes n frames.now count captures.now) }
 {
@@ -95,14 +90,12 @@ fn put_shape(
     let frame = table_frames::frame_at(frames, owner);
     let from = frame.captures_from;
     let k = find_capture::n_captures(captures, from, count, owner);
-    let written = put_record(out, used, b"SH", &[frame.n_locals, k]);
-    match written {
-        Written::To(next) => put_pairs(out, next, captures, from, count, owner),
-        Written::NoRoom => Written::NoRoom,
-    }
+    let next = put_record(out, used, b"SH", &[frame.n_locals, k])?;
+    put_pairs(out, next, captures, from, count, owner)
 }
 
-// The shape of the top frame, or refusal 9; then the frame is closed.
+// The shape of the top frame, or refusal 9; then the frame is closed. Buffers stay beside the state: document 01 asks for state by value beside lent tables.
+#[tactic(auto, using(crate::proofs::Closing::none_closed, crate::proofs::Closing::frame_closed, crate::proofs::Closing::frame_full, std::proofs::lemmas::Result::err_from_is_err_and))]
 pub fn close_frame(
     out: &mut [u8],
     frames: &[u32],
@@ -119,14 +112,11 @@ pub fn close_frame(
         return emit(out, st, place, b"SH", &[0, 0]);
     }
     let written = put_shape(out, st.out, frames, captures, n, st.captures);
-    match written {
-        Written::To(end) => {
-            let mut after = st;
-            after.out = end;
-            after.frames = n - 1;
-            after.captures = resolver::pop_frame(frames, captures, n, st.captures);
-            Step::Ok(after)
-        }
-        Written::NoRoom => Step::Refused(9, place),
-    }
+    let end = written.ok_or(Reason::OutputFull.at(place))?;
+    Ok(AnalysisStack {
+        out: end,
+        frames: n - 1,
+        captures: resolver::pop_frame(frames, captures, n, st.captures),
+        ..st
+    })
 }

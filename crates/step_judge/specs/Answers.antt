@@ -14,7 +14,7 @@ use Rattle.state.specs.Seen.{buffers, Fit}
 use Rattle.state.specs.Walks.{Steps, Becomes}
 use Rattle.state.specs.declared.AnalysisStack.{AnalysisStack}
 use Rattle.state.specs.declared.Limits.{Limits}
-use Rattle.state.specs.declared.Step.{Step}
+use Rattle.state.specs.Seen.{Step}
 
 -- the references kept since there were `before` of them are of locals that are there, and their rounds can be counted
 pub record Settleable (locals references : List ℕ) (st : AnalysisStack) (kept before : ℕ) : Type 0 where

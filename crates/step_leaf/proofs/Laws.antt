@@ -15,18 +15,18 @@ use Rattle.rules.specs.Tree.{no_exprs, ◌then◌}
 use Rattle.rules.specs.State as rules
 use Rattle.rules.specs.Walk as walk
 use Rattle.law_runs.specs.Run.{Accepted, holders, item_at, items_at, run_expr, run_items}
-use Rattle.law_runs.specs.Steps.{and_place, identity_steps, variable_steps}
-use Rattle.law_runs.proofs.Expressions.{identity_run, constant_run, variable_run, import_run, identity_size, identity_kind, variable_size}
+use Rattle.law_runs.specs.Steps.{and_place, copied, identity_steps, import_steps, variable_steps}
+use Rattle.law_runs.proofs.Expressions.{identity_run, constant_run, variable_run, import_run, identity_size, identity_kind, variable_size, constant_size, import_size}
 use Rattle.law_runs.proofs.Holders.{not_held, not_held_run}
 use Rattle.state.specs.Seen.{Buffers}
 use Rattle.state.specs.Walks.{Walks}
 use Rattle.state.specs.declared.AnalysisStack.{AnalysisStack}
 use Rattle.state.specs.declared.Limits.{Limits}
-use Rattle.state.specs.declared.Walked.{Walked}
 use Rattle.step_name.specs.Answers.{identity_step, variable_step, name_step}
 use Rattle.law_joins.proofs.Joining.{walks_as}
-use Rattle.law_joins.proofs.Returns.{identity_returns, variable_returns}
+use Rattle.law_joins.proofs.Returns.{constant_returns, identity_returns, import_returns, variable_returns}
 use Rattle.step_leaf.specs.Leaves.{is_leaf, LeafThere, items_rank}
+use Rattle.state.specs.Seen.{Walked}
 
 -- Its mark
 
@@ -50,10 +50,6 @@ variable_left {c = c} e no_tv no_im no_id = by (eqb c (code VA)) refl
     by : (t : Bool) → eqb c (code VA) ≡ t → c ≡ code VA
     by true h = eqb-true c (code VA) h
     by false h = absurd (no_im (import_left e no_id no_tv (eqb-false c (code VA) h)))
-
-pub no_leaf : {c : ℕ} → (c ≡ code ID → ⊥) → (c ≡ code TV → ⊥) → (c ≡ code VA → ⊥) → (c ≡ code IM → ⊥) → is_leaf c ≡ false
-unfolding is_leaf
-no_leaf {c = c} no_id no_tv no_va no_im = rw (ne_eqb c (code ID) no_id, ne_eqb c (code TV) no_tv, ne_eqb c (code VA) no_va, ne_eqb c (code IM) no_im) refl
 
 module _ {c : ℕ} (e : is_leaf c ≡ false) where
   is_other : {m : ℕ} → is_leaf m ≡ true → c ≡ m → ⊥
@@ -118,19 +114,11 @@ module _ (s : List ℕ) (nest p : ℕ) {c : ℕ} (ec : code_at s p ≡ c) (leaf 
   unfolding items_at many expr_item none_left ◌>>=◌
   leaf_item a = record { what = (a.what.0 then no_exprs, a.what.1); there = rw (item_is_expr, a.there) refl }
 
-module _ (L : rules.Limits) {s : List ℕ} {nest c p : ℕ} (a : LeafThere s nest c p) where
-  -- and an item that is a leaf is an expression
-  pub leaf_read : Accepted (expr_at s nest any_expression p)
-  leaf_read = let others = no_holder a.leaf in not_held s L nest p a.read c a.marked others.0 others.1 others.2
-
 -- Walks over it
 
 module _ (s : List ℕ) (nest p : ℕ) {c : ℕ} (ec : code_at s p ≡ c) (h : walk.Place) (leaf : is_leaf c ≡ true) where
   as_expr : Accepted (items_at s nest 1 p) → (L : rules.Limits) (σ : rules.AnalysisStack) → run_items s L nest 1 p h σ ≡ run_expr s L nest p walk.unnamed h σ
   as_expr a L σ = let others = no_holder leaf in not_held_run s L nest p a c ec others.0 others.1 others.2 h σ
-
-  pub leaf_walked : Accepted (items_at s nest 1 p) → {l : Limits} {b b₁ : Buffers} {st : AnalysisStack} {r : Walked} → Walks r l b b₁ st (λ L σ. run_expr s L nest p walk.unnamed h σ) → Walks r l b b₁ st (λ L σ. run_items s L nest 1 p h σ)
-  leaf_walked a w = walks_as w λ L σ. sym (as_expr a L σ)
 
   -- nothing in it has a name of its own
   module _ (a : Accepted (expr_at s nest any_expression p)) (ν : walk.Naming) (L : rules.Limits) (σ : rules.AnalysisStack) where
@@ -148,28 +136,46 @@ module _ (s : List ℕ) (nest p : ℕ) {c : ℕ} (ec : code_at s p ≡ c) (h : w
   pub leaf_answered : (a : Accepted (expr_at s nest any_expression p)) (ν : walk.Naming) {l : Limits} {b b₁ : Buffers} {st : AnalysisStack} {r : Walked} → Walks r l b b₁ st (λ L σ. run_items s L nest 1 p h σ) → Walks r l b b₁ st (λ L σ. run_expr s L nest p ν h σ)
   leaf_answered a ν w = walks_as w λ L σ. as_expr (leaf_item s nest p ec leaf a) L σ ∙ sym (named a ν L σ)
 
--- A name is what is left where a leaf is no constant and no import
+-- A leaf is a constant, an import or else a name
 
-module _ (s : List ℕ) (nest p : ℕ) {c : ℕ} (ec : code_at s p ≡ c) (leaf : is_leaf c ≡ true) (no_tv : c ≡ code TV → ⊥) (no_im : c ≡ code IM → ⊥)
-    (a : Accepted (expr_at s nest any_expression p)) where
-  is_variable : eqb c (code ID) ≡ false → code_at s p ≡ code VA
-  is_variable e = ec ∙ variable_left leaf no_tv no_im (eqb-false c (code ID) e)
+module _ {s : List ℕ} {nest c p : ℕ} (a : LeafThere s nest c p) where
+  leaf_read : Accepted (expr_at s nest any_expression p)
+  leaf_read = let others = no_holder a.leaf in not_held s (record { locals = 0; frames = 0; captures = 0; references = 0; out = 0; diagnostics = 0 }) nest p a.read c a.marked others.0 others.1 others.2
 
-  pub name_size : p + 10 ≤ length s
-  name_size = by (eqb c (code ID)) refl
-    where
-      by : (t : Bool) → eqb c (code ID) ≡ t → p + 10 ≤ length s
-      by true e = identity_size s nest p a (ec ∙ eqb-true c (code ID) e)
-      by false e = variable_size s nest p a (is_variable e)
+  pub constant_fits : c ≡ code TV → p + 6 ≤ length s
+  constant_fits e = constant_size s nest p leaf_read (a.marked ∙ e)
 
-  pub name_kind : c ≡ code ID → number_at s (p + 2) < 3
-  name_kind e = identity_kind s nest p a (ec ∙ e)
+  pub import_fits : c ≡ code IM → p + 18 ≤ length s
+  import_fits e = import_size s nest p leaf_read (a.marked ∙ e)
 
   module _ (h : walk.Place) {l : Limits} {b b₁ : Buffers} {st : AnalysisStack} {r : Walked} where
-    pub name_returns : Walks r l b b₁ st (λ L σ. and_place (p + 10) (name_step L s c p h σ)) → Walks r l b b₁ st (λ L σ. run_expr s L nest p walk.unnamed h σ)
+    walked_as_expr : Walks r l b b₁ st (λ L σ. run_expr s L nest p walk.unnamed h σ) → Walks r l b b₁ st (λ L σ. run_items s L nest 1 p h σ)
+    walked_as_expr w = walks_as w λ L σ. sym (as_expr s nest p a.marked h a.leaf a.read L σ)
+
+    pub constant_walked : c ≡ code TV → Walks r l b b₁ st (λ L σ. copied L s TV p (p + 6) σ) → Walks r l b b₁ st (λ L σ. run_items s L nest 1 p h σ)
+    constant_walked e w = walked_as_expr (constant_returns s nest p leaf_read walk.unnamed h (a.marked ∙ e) w)
+
+    pub import_walked : c ≡ code IM → Walks r l b b₁ st (λ L σ. import_steps L s p σ) → Walks r l b b₁ st (λ L σ. run_items s L nest 1 p h σ)
+    import_walked e w = walked_as_expr (import_returns s nest p leaf_read walk.unnamed h (a.marked ∙ e) w)
+
+  module _ (no_tv : c ≡ code TV → ⊥) (no_im : c ≡ code IM → ⊥) where
+    is_variable : eqb c (code ID) ≡ false → code_at s p ≡ code VA
+    is_variable e = a.marked ∙ variable_left a.leaf no_tv no_im (eqb-false c (code ID) e)
+
+    pub name_fits : p + 10 ≤ length s
+    name_fits = by (eqb c (code ID)) refl
+      where
+        by : (t : Bool) → eqb c (code ID) ≡ t → p + 10 ≤ length s
+        by true e = identity_size s nest p leaf_read (a.marked ∙ eqb-true c (code ID) e)
+        by false e = variable_size s nest p leaf_read (is_variable e)
+
+    pub name_walked : (h : walk.Place) {l : Limits} {b b₁ : Buffers} {st : AnalysisStack} {r : Walked} → Walks r l b b₁ st (λ L σ. and_place (p + 10) (name_step L s c p h σ)) → Walks r l b b₁ st (λ L σ. run_items s L nest 1 p h σ)
     unfolding name_step identity_step variable_step identity_steps variable_steps choose
-    name_returns w = by (eqb c (code ID)) refl
+    name_walked h {l = l} {b = b} {b₁ = b₁} {st = st} {r = r} w = walked_as_expr h (by (eqb c (code ID)) refl)
       where
         by : (t : Bool) → eqb c (code ID) ≡ t → Walks r l b b₁ st (λ L σ. run_expr s L nest p walk.unnamed h σ)
-        by true e = identity_returns s nest p a walk.unnamed h (ec ∙ eqb-true c (code ID) e) (rw e at w)
-        by false e = variable_returns s nest p a walk.unnamed h (is_variable e) (rw e at w)
+        by true e = identity_returns s nest p leaf_read walk.unnamed h (a.marked ∙ eqb-true c (code ID) e) (rw e at w)
+        by false e = variable_returns s nest p leaf_read walk.unnamed h (is_variable e) (rw e at w)
+
+  pub name_kind : c ≡ code ID → number_at s (p + 2) < 3
+  name_kind e = identity_kind s nest p leaf_read (a.marked ∙ e)

@@ -3,14 +3,14 @@
 #![tactic(auto)]
 
 ghost use Rattle.std.specs.Prelude.{◌≡◌};
-ghost use Rattle.state.specs.Seen.{buffers};
+ghost use Rattle.state.specs.Seen.{contents, SameBuffers};
 ghost use Rattle.state.specs.Walks.{place_of, Walks};
 ghost use Rattle.law_runs.specs.Run.{run_items};
 ghost use Rattle.law_joins.specs.Ready.{Ready};
 ghost use Rattle.step_leaf.specs.Leaves.{is_leaf, LeafThere};
 
 use bytes_records::{ID, IM, TV, VA, offsets};
-use state::{AnalysisStack, Limits, Place, Walked};
+use state::{AnalysisStack, Lent, Limits, Place, Walked};
 use step_copy::copy_record;
 use step_emit::analyze_import;
 use step_name::analyze_name;
@@ -19,24 +19,13 @@ use step_name::analyze_name;
 pub fn is_leaf(mark: u32) -> bool
     ensures { result ≡ is_leaf mark }
 {
-    match mark {
-        ID => true,
-        TV => true,
-        VA => true,
-        IM => true,
-        _ => false,
-    }
+    matches!(mark, ID | TV | VA | IM)
 }
 
 // An item with nothing below it.
 pub fn on_leaf(
     tree: &[u8],
-    out: &mut [u8],
-    diagnostics: &mut [u8],
-    locals: &mut [u32],
-    frames: &[u32],
-    captures: &mut [u32],
-    references: &[u32],
+    lent: &mut Lent<'_>,
     limits: Limits,
     st: AnalysisStack,
     at: usize,
@@ -44,28 +33,32 @@ pub fn on_leaf(
     mark: u32,
     here: Place,
 ) -> Walked
-    requires ready { Ready limits (buffers out.old diagnostics.old locals.old frames.now captures.old references.now)
+    requires ready { Ready limits (contents lent.old)
         st tree.now at nest here }
     requires leaf_there { LeafThere tree.now nest mark at }
-    ensures { Walks result limits (buffers out.old diagnostics.old locals.old frames.now captures.old references.now)
-        (buffers out.new diagnostics.new locals.new frames.now captures.new references.now) st (λ limits σ. run_items
+    ensures walks { Walks result limits (contents lent.old)
+        (contents lent.new) st (λ limits σ. run_items
         tree.now limits nest 1 at (place_of here) σ) }
+    ensures same_buffers { SameBuffers lent.old lent.new }
 {
     match mark {
-        TV => copy_record(tree, out, st, at, at + offsets::TV_SIZE, TV),
-        IM => analyze_import(tree, out, diagnostics, st, at),
-        _ => analyze_name(
-            tree,
-            out,
-            diagnostics,
-            locals,
-            frames,
-            captures,
-            limits,
-            st,
-            at,
-            mark,
-            here,
-        ),
+        TV => copy_record(tree, lent.out, st, at, at + offsets::TV_SIZE, TV),
+        IM => analyze_import(tree, lent.out, lent.diagnostics, st, at),
+        _ => {
+            let frames = &mut *lent.frames;
+            analyze_name(
+                tree,
+                lent.out,
+                lent.diagnostics,
+                lent.locals,
+                frames,
+                lent.captures,
+                limits,
+                st,
+                at,
+                mark,
+                here,
+            )
+        }
     }
 }

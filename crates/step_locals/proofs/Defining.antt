@@ -3,7 +3,7 @@ use Prim.Native.Nat.{ℕ, suc, ◌+◌, ◌-◌, ◌≤◌, ◌<◌}
 use mathlib.Core.Bool.{Bool, true, false}
 use mathlib.Core.List.{List, [], ◌∷◌, ◌++◌, map-append}
 use mathlib.Core.Logic.{⊎_elim}
-use mathlib.Core.Option.{Option, none, some}
+use mathlib.Core.Option.{none, some}
 use mathlib.Core.Path.{◌≡◌, refl, sym, ap, ◌∙◌}
 use native.Mathlib.Numerals.{add-one}
 use native.Mathlib.Omega.{arith}
@@ -12,10 +12,9 @@ use lib.Seq.{set_at}
 use lib.Dec.{ltb, eqb}
 use borrow.Author.Tests.{lt-ltb, le-ltb}
 use Rattle.rules.specs.Outcome.{ok, refuse, ◌>>=◌, need, choose}
-use Rattle.rules.specs.Numbers.{Name, never}
-use Rattle.rules.specs.Depths.{AnalysisResult, no_dependence}
+use Rattle.rules.specs.Numbers.{Name}
 use Rattle.rules.specs.Records.{Span, no_span}
-use Rattle.rules.specs.Tree.{Binding, at_record}
+use Rattle.rules.specs.Tree.{at_record}
 use Rattle.rules.specs.Locals as rules
 use Rattle.rules.specs.Frames.{ClosureFrame, top, beneath, with_one_more_local}
 use Rattle.rules.specs.State as state
@@ -37,29 +36,14 @@ use Rattle.resolver.proofs.Laws.{frames_top, frames_agree}
 use Rattle.state.specs.Seen.{buffers, stack, limits_of, span_of}
 use Rattle.state.specs.declared.AnalysisStack.{AnalysisStack}
 use Rattle.state.specs.declared.Limits.{Limits}
-use Rattle.state.specs.declared.Step.{Step}
-use Rattle.state.specs.declared.Step.TheVariants.{Ok, Refused}
 use Rattle.step_locals.specs.Answers.{PushedLocal, CountedLocal, PushedInFrame, DefinedNew, DefinedThis, one_more_local}
 use Rattle.state.proofs.Changing.{locals_to}
 use Rattle.state.proofs.Fitting.{fit_names, fit_frames}
 use Rattle.step_locals.proofs.Finding.{locals_of_top}
-
--- A new local
-
-pub new_is : {b : Binding} {name : Option Name} {span : Span} {depth : ℕ} {analyzed : Bool} (a : AnalysisResult) → a ≡ no_dependence
-    → ◌≡◌ {A = rules.LocalDefinition} (record {
-      stands_for = b;
-      name = name;
-      span = span;
-      defined_at_depth = depth;
-      used_at_depth = never;
-      used_by_sibling = false;
-      analysis = a;
-      analyzed = analyzed;
-      scratch_referenced = false;
-    }) (rules.new_local b name span depth analyzed)
-unfolding rules.new_local
-new_is a e = rw e
+use Rattle.std.specs.Prelude.{Ok, Err}
+use Rattle.refusal.specs.Meaning.{refuses}
+use Rattle.refusal.specs.declared.Reason.TheVariants as reason
+use Rattle.state.specs.Seen.{Step}
 
 -- A local after the others
 
@@ -74,7 +58,7 @@ locals_pushed n t u l put =
     ∙ set_at (locals_of n t) (local_of_row (row n t)) [] l n (length_locals n t)
 
 module _ (locals : List ℕ) (limits : Limits) (st : AnalysisStack) (place : ℕ) (l : LocalDefinition) where
-  pub no_room : limits.max_locals ≤ st.locals → PushedLocal (Refused 6 place) locals locals limits st place l
+  pub no_room : limits.max_locals ≤ st.locals → PushedLocal (Err (refuses reason.LocalLimit place)) locals locals limits st place l
   unfolding push_local ◌>>=◌ need stack limits_of
   no_room full = record {
     same = λ out diagnostics frames captures references. rw (length_locals st.locals locals, le-ltb st.locals limits.max_locals full);
@@ -200,7 +184,7 @@ module _ {r : Step} {locals locals' frames frames' : List ℕ} {limits : Limits}
     }
 
 pub frame_full : {locals frames : List ℕ} {limits : Limits} {st : AnalysisStack} {place name span depth : ℕ} → 0 < st.frames → 65535 ≤ number frames (st.frames - 1) 2
-    → DefinedNew (Refused 11 place) locals locals frames frames limits st place name span depth
+    → DefinedNew (Err (refuses reason.TooManyNames place)) locals locals frames frames limits st place name span depth
 frame_full {locals} {frames} {limits} {st} {place} {name} {span} {depth} is_open full = record {
   same = λ out diagnostics captures references free.
       let b = buffers out diagnostics locals frames captures references in

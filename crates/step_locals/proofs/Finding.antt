@@ -2,8 +2,9 @@
 use Prim.Native.Nat.{ℕ, ◌+◌, ◌-◌, ◌≤◌, ◌<◌}
 use mathlib.Core.Bool.{Bool, true, false}
 use mathlib.Core.List.{List, []}
-use mathlib.Core.Option.{Option}
-use mathlib.Core.Path.{◌≡◌, sym, ap, ◌∙◌}
+use mathlib.Core.Option as math
+use Rattle.std.specs.Prelude.{Option, Some, None, is_some}
+use mathlib.Core.Path.{◌≡◌, refl, sym, ap, ◌∙◌}
 use native.Mathlib.Decide.{dec_lt}
 use native.Mathlib.Omega.{arith}
 use lib.ListN.{length}
@@ -13,8 +14,6 @@ use Rattle.rules.specs.Frames.{top, no_frame, new_frame}
 use Rattle.rules.specs.Scoping.{first_in_frame, is_taken}
 use Rattle.table_locals.specs.Meaning.{locals_of}
 use Rattle.find_name.specs.Answers.{found}
-use Rattle.find_name.specs.declared.Found.{Found}
-use Rattle.find_name.specs.declared.Found.TheVariants.{At, Nothing}
 use Rattle.value_local.specs.declared.LocalId.{LocalId}
 use Rattle.table_locals.proofs.Laws.{length_locals}
 use Rattle.table_rows.specs.Entries.{number}
@@ -58,7 +57,7 @@ module _ (frames : List ℕ) (st : AnalysisStack) where
 -- A name
 
 module _ (locals frames : List ℕ) (st : AnalysisStack) (first : ℕ) (is : FirstInFrame first frames st) (name : ℕ) where
-  abbrev told : Option ℕ → Bool
+  abbrev told : math.Option ℕ → Bool
   told o = given o (λ _. false) (λ id. true)
 
   taken_told : (out diagnostics captures references : List ℕ)
@@ -69,16 +68,14 @@ module _ (locals frames : List ℕ) (st : AnalysisStack) (first : ℕ) (is : Fir
       ap (λ (f : ℕ). told (rules.newest name ls f (length ls - f))) (sym (is.same out diagnostics locals captures references))
       ∙ ap (λ (n : ℕ). told (rules.newest name ls first (n - first))) (length_locals st.locals locals)
 
-  module _ (f : Found) (within : first ≤ st.locals)
+  module _ (f : Option LocalId) (within : first ≤ st.locals)
       (searched : (total : ℕ) → first + (st.locals - first) ≤ total → found f ≡ rules.newest name (locals_of total locals) first (st.locals - first)) where
-    pub taken : (id : LocalId) → f ≡ At id → IsTaken true locals frames st name
+    told_some : (o : Option LocalId) → told (found o) ≡ is_some o
     unfolding found given
-    taken id e = record {
-      same = λ out diagnostics captures references. sym (taken_told out diagnostics captures references ∙ ap told (sym (searched st.locals (omega arith)) ∙ ap found e));
-    }
+    told_some (Some id) = refl
+    told_some None = refl
 
-    pub free : f ≡ Nothing → IsTaken false locals frames st name
-    unfolding found given
-    free e = record {
-      same = λ out diagnostics captures references. sym (taken_told out diagnostics captures references ∙ ap told (sym (searched st.locals (omega arith)) ∙ ap found e));
+    pub taken : IsTaken (is_some f) locals frames st name
+    taken = record {
+      same = λ out diagnostics captures references. sym (taken_told out diagnostics captures references ∙ ap told (sym (searched st.locals (omega arith))) ∙ told_some f);
     }

@@ -9,7 +9,7 @@ use Rattle.value_local.specs.declared.LocalDefinition.{LocalDefinition}
 use Rattle.state.specs.Seen.{span_of, buffers, stack, seen, limits_of, Fit, Fits}
 use Rattle.state.specs.declared.AnalysisStack.{AnalysisStack}
 use Rattle.state.specs.declared.Limits.{Limits}
-use Rattle.state.specs.declared.Step.{Step}
+use Rattle.state.specs.Seen.{Step}
 
 -- the frame on top with one local more
 unfoldable pub one_more_local : rules.AnalysisStack → rules.AnalysisStack

@@ -3,19 +3,15 @@
 #![tactic(auto)]
 
 ghost use Rattle.std.specs.Prelude.{◌≡◌, ℕ, ◌*◌, ◌-◌, ◌<◌, ◌≤◌, length};
-ghost use Rattle.rules.specs.Tree.{at_record};
-ghost use Rattle.rules.specs.Locals.{new_local};
-ghost use Rattle.value_local.specs.Meaning.{local, named};
 ghost use Rattle.table_rows.specs.Entries.{number};
 ghost use Rattle.step_locals.specs.Answers.{FirstInFrame, IsTaken, CountedLocal, PushedLocal, PushedInFrame, DefinedNew, DefinedThis};
-ghost use Rattle.state.specs.Seen.{span_of};
 
-use find_name::{Found, newest};
+use find_name::newest;
+use refusal::{Reason, Refusal};
 use state::{AnalysisStack, Limits, Step};
 use table_frames::{frame_at, put_frame};
 use table_locals::put_local;
-use value_depths::{AnalysisResult, NEVER};
-use value_local::{LocalDefinition, LocalId};
+use value_local::{Binding, LocalDefinition, LocalId};
 
 // The id of the first local of the frame on top.
 pub fn first_in_frame(frames: &[u32], st: AnalysisStack) -> u32
@@ -38,11 +34,7 @@ pub fn is_taken(locals: &[u32], frames: &[u32], st: AnalysisStack, name: u32) ->
 {
     let first = first_in_frame(frames, st);
     let n = st.locals - first;
-    let found = newest(locals, name, first as usize, n as usize);
-    match found {
-        Found::At(_) => true,
-        Found::Nothing => false,
-    }
+    newest(locals, name, first as usize, n as usize).is_some()
 }
 
 // A local after the others, where L allows.
@@ -58,12 +50,16 @@ pub fn push_local(
 {
     let n = st.locals;
     if limits.max_locals <= n {
-        return Step::Refused(6, place);
+        return Err(Refusal {
+            reason: Reason::LocalLimit,
+            place,
+        });
     }
     put_local(locals, LocalId(n), l);
-    let mut after = st;
-    after.locals = n + 1;
-    Step::Ok(after)
+    Ok(AnalysisStack {
+        locals: n + 1,
+        ..st
+    })
 }
 
 // The frame on top has one local more.
@@ -94,33 +90,6 @@ pub fn push_in_frame(
     push_local(locals, limits, st, place, l)
 }
 
-// What a record's local is when it is defined.
-fn new_local(
-    place: u32,
-    has_name: bool,
-    name: u32,
-    span: u32,
-    depth: u32,
-    analyzed: bool,
-) -> LocalDefinition
-    ensures { local result ≡ new_local (at_record place) (named has_name name) (span_of span) depth analyzed }
-{
-    let none = AnalysisResult::no_dependence();
-    LocalDefinition {
-        defined_at_depth: depth,
-        used_at_depth: NEVER,
-        used_by_sibling: false,
-        analysis: none,
-        analyzed: analyzed,
-        scratch_referenced: false,
-        span: span,
-        has_name: has_name,
-        name: name,
-        is_record: true,
-        place: place,
-    }
-}
-
 // A name that the frame on top has not defined.
 pub fn define_new(
     locals: &mut [u32],
@@ -138,9 +107,13 @@ pub fn define_new(
 {
     let top = frame_at(frames, st.frames - 1);
     if 65535 <= top.n_locals {
-        return Step::Refused(11, place);
+        return Err(Refusal {
+            reason: Reason::TooManyNames,
+            place,
+        });
     }
-    let l = new_local(place as u32, true, name, span, depth, false);
+    let binding = Binding::Record(place as u32);
+    let l = LocalDefinition::new(binding, Some(name), span, depth, false);
     push_in_frame(locals, frames, limits, st, place, l)
 }
 
@@ -157,6 +130,7 @@ pub fn define_this(
         (number frames.old (st.frames - 1) 2 < 65535) × (place < 4294967296) }
     ensures { DefinedThis result locals.old locals.new frames.old frames.new limits st place depth }
 {
-    let l = new_local(place as u32, false, 0, 0, depth, true);
+    let binding = Binding::Record(place as u32);
+    let l = LocalDefinition::new(binding, None, 0, depth, true);
     push_in_frame(locals, frames, limits, st, place, l)
 }

@@ -1,7 +1,7 @@
 -- A slot that is written, and the captures that resolving leaves: they stay within C. Assumes nothing.
 use Prim.Native.Nat.{ℕ, ◌+◌, ◌≤◌, ◌<◌}
 use mathlib.Core.List.{List, [], ◌∷◌}
-use mathlib.Core.Path.{◌≡◌, sym, ap, subst, ◌∙◌}
+use mathlib.Core.Path.{◌≡◌, sym, ap, ◌∙◌}
 use native.Mathlib.Omega.{arith}
 use lib.ListN.{length, get_or, length-append}
 use borrow.Author.Tests.{ltb-true}
@@ -12,20 +12,18 @@ use Rattle.rules.specs.Writing as writing
 use Rattle.rules.specs.State as state
 use Rattle.rules.specs.Scoping as scoping
 use Rattle.rules.proofs.After.{After, fine, after_ok, after_bind, after_need, after_choose, after_given}
+use Rattle.std.specs.Prelude.{Ok}
 use Rattle.table_captures.specs.Meaning.{slot}
 use Rattle.resolver.specs.Meaning.{frames_of}
 use Rattle.resolver.specs.Kept.{Kept}
-use Rattle.resolver.specs.Answers as resolver
 use Rattle.resolver.specs.Answers.{ResolvesToSlot}
 use Rattle.table_captures.specs.declared.LSlot.{LSlot}
-use Rattle.resolver.specs.declared.Resolved.{Resolved}
-use Rattle.resolver.specs.declared.Resolved.TheVariants.{To, Refused}
 use Rattle.resolver.proofs.Resolving.{log_is_sum}
 use Rattle.state.specs.Seen.{buffers, stack, limits_of}
 use Rattle.state.specs.declared.AnalysisStack.{AnalysisStack}
-use Rattle.state.specs.declared.Step.{Step}
 use Rattle.step_write.specs.Answers.{Emitted}
 use Rattle.step_name.specs.Slots.{SlotWritten}
+use Rattle.state.specs.Seen.{Step}
 
 -- a record with the slot's mark and number is the slot's
 pub slot_written : (r : Step) (out out' : List ℕ) (st : AnalysisStack) (place : ℕ) (s : LSlot) (m : Mark) (mark : List ℕ) (n : ℕ)
@@ -54,16 +52,6 @@ resolve_within most place above id (f ∷ fs) h =
     omega (arith, length-append f.captures (record { target = id; source = parent.slot } ∷ [])))))))
     (λ k _. fine h))
 
--- what the resolver answered, as the rules' outcome
-pub resolved_to : (r : Resolved) (n : ℕ) (frames : List ℕ) (count : ℕ) (before after : List ℕ) (most id place : ℕ) (s : LSlot) (count' : ℕ)
-    → ResolvesToSlot r n frames count before after most id → r ≡ To s count'
-    → rules.resolve_to_slot most place id (frames_of n frames count before) ≡ ok (record { slot = slot s; frames = frames_of n frames count' after })
-resolved_to r n frames count before after most id place s count' res e = sym (res.same place) ∙ ap (λ (x : Resolved). resolver.seen x place n frames after) e
-
-pub resolved_not : (r : Resolved) (n : ℕ) (frames : List ℕ) (count : ℕ) (before after : List ℕ) (most id place why : ℕ)
-    → ResolvesToSlot r n frames count before after most id → r ≡ Refused why → rules.resolve_to_slot most place id (frames_of n frames count before) ≡ refuse why place
-resolved_not r n frames count before after most id place why res e = sym (res.same place) ∙ ap (λ (x : Resolved). resolver.seen x place n frames after) e
-
 -- the step goes on with what was resolved, or ends
 pub slot_resolved : (l : state.Limits) (place id : ℕ) (st : state.AnalysisStack) (r : rules.Resolved) → rules.resolve_to_slot l.captures place id st.frames ≡ ok r
     → scoping.emit_slot l place id st ≡ writing.emit l place (writing.slot_mark r.slot) (writing.slot_number r.slot ∷ []) (state.with_frames r.frames st)
@@ -76,14 +64,10 @@ unfolding scoping.emit_slot ◌>>=◌
 slot_refused l place id st why e = rw (e, scoping.emit_slot)
 
 -- the log stays within C
-pub log_within : (r : Resolved) (n : ℕ) (frames : List ℕ) (count : ℕ) (before after : List ℕ) (most id : ℕ) (s : LSlot) (count' : ℕ)
-    → ResolvesToSlot r n frames count before after most id → r ≡ To s count' → Kept n frames count before → Kept n frames count' after → count ≤ most → count' ≤ most
+pub log_within : (n : ℕ) (frames : List ℕ) (count : ℕ) (before after : List ℕ) (most id : ℕ) (s : LSlot) (count' : ℕ)
+    → ResolvesToSlot (Ok (s, count')) n frames count before after most id → Kept n frames count before → count ≤ most → count' ≤ most
 unfolding rules.resolve_to_slot
-log_within r n frames count before after most id s count' res e kept kept' few =
+log_within n frames count before after most id s count' res kept few =
     let fits : 0 + rules.count_captures (frames_of n frames count before) ≤ most = omega (arith, log_is_sum n frames count before kept.owned) in
-    let within = after_ok (resolve_within most 0 0 id (frames_of n frames count before) fits) (resolved_to r n frames count before after most id 0 s count' res e) in
-    omega (arith, within, log_is_sum n frames count' after kept'.owned)
-
--- what is kept after the resolver, where it answered a slot
-pub kept_to : (r : Resolved) (n : ℕ) (frames after : List ℕ) (s : LSlot) (count : ℕ) → resolver.KeptAfter r n frames after → r ≡ To s count → Kept n frames count after
-kept_to r n frames after s count k e = subst (λ (x : Resolved). resolver.KeptAfter x n frames after) e k
+    let within = after_ok (resolve_within most 0 0 id (frames_of n frames count before) fits) (sym (res.same 0)) in
+    omega (arith, within, log_is_sum n frames count' after res.kept.owned)

@@ -3,6 +3,9 @@ use Prim.Native.Nat.{ℕ, zero, suc, ◌+◌, ◌≤◌, ◌<◌}
 use mathlib.Core.Bool.{Bool, true, false}
 use mathlib.Core.List.{List, [], ◌∷◌}
 use mathlib.Core.Option.{Option, none, some}
+use Rattle.std.specs.Prelude.{Ok, Err, Some, None}
+use Rattle.std.specs.Prelude as std
+use Rattle.refusal.specs.declared.Refusal.{Refusal}
 use mathlib.Core.Path.{◌≡◌, refl, sym, ap, ap₂, subst, ◌∙◌}
 use native.Mathlib.Omega.{arith}
 use lib.ListN.{length, length-set}
@@ -19,8 +22,6 @@ use Rattle.rules.specs.Walk as walk
 use Rattle.value_depths.specs.declared.AnalysisResult.{AnalysisResult}
 use Rattle.table_locals.specs.Meaning.{locals_of}
 use Rattle.find_name.specs.Answers.{found}
-use Rattle.find_name.specs.declared.Found.{Found}
-use Rattle.find_name.specs.declared.Found.TheVariants.{At, Nothing}
 use Rattle.value_local.specs.declared.LocalId.{LocalId}
 use Rattle.table_locals.proofs.Laws.{length_locals}
 use Rattle.resolver.specs.Kept.{Kept}
@@ -30,19 +31,17 @@ use Rattle.state.specs.Walks.{id_if, place_of, Stands, Steps}
 use Rattle.state.specs.declared.AnalysisStack.{AnalysisStack}
 use Rattle.state.specs.declared.Limits.{Limits}
 use Rattle.state.specs.declared.Place.{Place}
-use Rattle.state.specs.declared.Step.{Step}
-use Rattle.state.specs.declared.Walked.{Walked}
 use Rattle.state.proofs.Changing.{marks_to, taint_to}
 use Rattle.state.proofs.Fitting.{fit_values, fit_entries}
 use Rattle.step_touch.specs.Answers.{TouchedLocal, TouchedObject}
 use Rattle.step_name.specs.Slots.{SlotEmitted}
 use Rattle.step_write.specs.Answers.{Emitted, BadPlace}
 use Rattle.step_write.proofs.Emitting.{emitted_steps}
-use Rattle.state.specs.Converting.{walked_to}
-use Rattle.step_name.specs.Answers.{identity_id, object_used, identity_step, variable_step, name_step, UsedObject, UsedLocal, SlotLeft, StepMade, Left, Uses, NameAnalyzed}
-use Rattle.step_name.specs.declared.Used.{Used}
-use Rattle.step_name.specs.declared.Used.TheVariants.{Slot, Done}
-use Rattle.step_emit.proofs.Laws.{bad_steps, walks_behind}
+use Rattle.step_name.specs.Answers.{kind_of, identity_id, object_used, identity_step, variable_step, name_step, UsedObject, UsedLocal, SlotLeft, StepMade, Left, Used, Uses, NameAnalyzed}
+use Rattle.step_emit.proofs.Laws.{bad_steps, Placed, placed, refused, walks_behind}
+use Rattle.step_name.specs.declared.Identity.{Identity}
+use Rattle.step_name.specs.declared.Identity.TheVariants.{This, Super, Dollar}
+use Rattle.state.specs.Seen.{Step, Walked}
 
 -- The state with another dependence and other marks of the present object
 
@@ -68,20 +67,17 @@ module _ {touched : AnalysisStack} {locals : List ℕ} {st : AnalysisStack} {id 
     as_many_captures = refl;
   }
 
-  pub used_as_self : (which : ℕ) → which ≡ 0 → UsedObject (used_as true st.super_used st.dollar_used touched.taint st) locals st which id
+  pub used_as_self : {which : Identity} → which ≡ This → UsedObject (used_as true st.super_used st.dollar_used touched.taint st) locals st (kind_of which) id
   unfolding walk.mark_used
-  used_as_self which e = marked true st.super_used st.dollar_used which (rw e refl)
+  used_as_self {which} e = marked true st.super_used st.dollar_used (kind_of which) (rw e refl)
 
-  pub used_as_super : (which : ℕ) → which ≡ 1 → UsedObject (used_as st.self_used true st.dollar_used touched.taint st) locals st which id
+  pub used_as_super : {which : Identity} → which ≡ Super → UsedObject (used_as st.self_used true st.dollar_used touched.taint st) locals st (kind_of which) id
   unfolding walk.mark_used
-  used_as_super which e = marked st.self_used true st.dollar_used which (rw e refl)
+  used_as_super {which} e = marked st.self_used true st.dollar_used (kind_of which) (rw e refl)
 
-  pub used_as_dollar : (which : ℕ) → (which ≡ 0 → ⊥) → (which ≡ 1 → ⊥)
-      → UsedObject (used_as st.self_used st.super_used true touched.taint st) locals st which id
+  pub used_as_dollar : {which : Identity} → which ≡ Dollar → UsedObject (used_as st.self_used st.super_used true touched.taint st) locals st (kind_of which) id
   unfolding walk.mark_used
-  used_as_dollar zero not_self not_super = absurd (not_self refl)
-  used_as_dollar (suc zero) not_self not_super = absurd (not_super refl)
-  used_as_dollar (suc (suc n)) not_self not_super = marked st.self_used st.super_used true (suc (suc n)) refl
+  used_as_dollar {which} e = marked st.self_used st.super_used true (kind_of which) (rw e refl)
 
 -- A local
 
@@ -109,19 +105,31 @@ module _ {touched : AnalysisStack} {locals locals' : List ℕ} {st : AnalysisSta
     as_many_captures = refl;
   }
 
+-- A step that is made, with no slot left to write
+
+-- a step's answer, with no slot left, or its refusal
+abbrev pub Ends : Used → Step → Type 0
+Ends (Ok (after, Some id)) r = ⊥
+Ends (Ok (after, None)) r = r ≡ Ok after
+Ends (Err why) r = r ≡ Err why
+
+step_done : {made : Used} {r : Step} {out out' diagnostics diagnostics' locals locals' : List ℕ} {st : AnalysisStack} {at : ℕ} {step : rules.Limits → rules.AnalysisStack → Outcome rules.AnalysisStack}
+    → Ends made r → StepMade r out out' diagnostics diagnostics' locals locals' st step → Uses made out out' diagnostics diagnostics' locals locals' st at step
+unfolding Left
+step_done {made = Ok (after, Some id)} e done = absurd e
+step_done {made = Ok (after, None)} e done = record { left = rw e at done }
+step_done {made = Err why} e done = record { left = rw e at done }
+
 -- Which local that is
 
-pub id_of_dollar : (which : ℕ) (here : Place) → 2 ≤ which → here.dollar_alias.0 ≡ identity_id which here
-unfolding identity_id
-id_of_dollar zero here h = absurd (omega arith)
-id_of_dollar (suc zero) here h = absurd (omega arith)
-id_of_dollar (suc (suc n)) here h = refl
+-- only super is written as 1
+pub is_one : {which : Identity} → which ≡ Super → kind_of which ≡ 1
+is_one e = ap kind_of e
 
-pub id_of_this : (which : ℕ) (here : Place) → which < 2 → here.this_local.0 ≡ identity_id which here
-unfolding identity_id
-id_of_this zero here h = refl
-id_of_this (suc zero) here h = refl
-id_of_this (suc (suc n)) here h = absurd (omega arith)
+pub not_one : (which : Identity) → (which ≡ Super → ⊥) → kind_of which ≡ 1 → ⊥
+not_one This other e = omega arith
+not_one Super other e = other refl
+not_one Dollar other e = omega arith
 
 -- it is there inside an object
 pub identity_there : (which : ℕ) (here : Place) (st : AnalysisStack) (id : ℕ) → id ≡ identity_id which here → here.in_object ≡ true → Stands here st → id < st.locals
@@ -144,23 +152,21 @@ outside_is (suc (suc n)) here outside = rw outside refl
 
 module _ (tree : List ℕ) (here : Place) {out diagnostics locals : List ℕ} {st : AnalysisStack} {at which : ℕ} (is_which : which ≡ number_at tree (at + 2)) where
   module _ {used : AnalysisStack} (id : LocalId) (u : UsedObject used locals st which id.0) (is_id : id.0 ≡ identity_id which here) (inside : here.in_object ≡ true) where
-    pub super_used : {r : Step} {out' : List ℕ} → Emitted r out out' used at (0x53 ∷ 0x55 ∷ []) [] → which ≡ 1
-        → Uses (Done r) out out' diagnostics diagnostics locals locals st at (λ limits σ. identity_step limits tree at (place_of here) σ)
-    unfolding mark_bytes code identity_step walk.use_identity given object_used choose Left
-    super_used emitted is_super = record {
-      left = record {
-        steps = λ l fs cs rs fit.
-            let made = emitted_steps emitted SU refl l diagnostics locals fs cs rs (u.fit l out diagnostics fs cs rs fit) in
-            record {
-              same = λ limits e.
-                  made.same limits e ∙ ap (λ (σ : rules.AnalysisStack). writing.emit limits at SU [] σ) (u.same out diagnostics fs cs rs)
-                  ∙ rw (← is_which, inside_is which here inside, is_id, eq-eqb which 1 is_super) refl;
-              fit = made.fit;
-            };
-      };
-    }
+    pub super_used : {r : Step} {out' : List ℕ} {made : Used} → Emitted r out out' used at (0x53 ∷ 0x55 ∷ []) [] → which ≡ 1 → Ends made r
+        → Uses made out out' diagnostics diagnostics locals locals st at (λ limits σ. identity_step limits tree at (place_of here) σ)
+    unfolding mark_bytes code identity_step walk.use_identity given object_used choose
+    super_used emitted is_super ends = step_done ends (record {
+      steps = λ l fs cs rs fit.
+          let made = emitted_steps emitted SU refl l diagnostics locals fs cs rs (u.fit l out diagnostics fs cs rs fit) in
+          record {
+            same = λ limits e.
+                made.same limits e ∙ ap (λ (σ : rules.AnalysisStack). writing.emit limits at SU [] σ) (u.same out diagnostics fs cs rs)
+                ∙ rw (← is_which, inside_is which here inside, is_id, eq-eqb which 1 is_super) refl;
+            fit = made.fit;
+          };
+    })
 
-    pub this_used : (which ≡ 1 → ⊥) → Uses (Slot used id) out out diagnostics diagnostics locals locals st at (λ limits σ. identity_step limits tree at (place_of here) σ)
+    pub this_used : (which ≡ 1 → ⊥) → Uses (Ok (used, Some id)) out out diagnostics diagnostics locals locals st at (λ limits σ. identity_step limits tree at (place_of here) σ)
     unfolding identity_step walk.use_identity given object_used choose Left
     this_used no_super = record {
       left = record {
@@ -174,17 +180,15 @@ module _ (tree : List ℕ) (here : Place) {out diagnostics locals : List ℕ} {s
       };
     }
 
-  pub identity_outside : {r : Step} {out' diagnostics' : List ℕ} {span : ℕ} → BadPlace r out out' diagnostics diagnostics' st at (3 + which) 0 span which
-      → span ≡ number_at tree (at + 6) → here.in_object ≡ false
-      → Uses (Done r) out out' diagnostics diagnostics' locals locals st at (λ limits σ. identity_step limits tree at (place_of here) σ)
-  unfolding identity_step walk.use_identity given Left
-  identity_outside was_bad is_span outside = record {
-    left = record {
-      steps = λ l fs cs rs fit.
-          let made = bad_steps was_bad l locals fs cs rs fit in
-          record { same = λ limits e. made.same limits e ∙ rw (← is_which, outside_is which here outside, is_span) refl; fit = made.fit };
-    };
-  }
+  pub identity_outside : {r : Step} {out' diagnostics' : List ℕ} {span : ℕ} {made : Used} → BadPlace r out out' diagnostics diagnostics' st at (3 + which) 0 span which
+      → span ≡ number_at tree (at + 6) → here.in_object ≡ false → Ends made r
+      → Uses made out out' diagnostics diagnostics' locals locals st at (λ limits σ. identity_step limits tree at (place_of here) σ)
+  unfolding identity_step walk.use_identity given
+  identity_outside was_bad is_span outside ends = step_done ends (record {
+    steps = λ l fs cs rs fit.
+        let made = bad_steps was_bad l locals fs cs rs fit in
+        record { same = λ limits e. made.same limits e ∙ rw (← is_which, outside_is which here outside, is_span) refl; fit = made.fit };
+  })
 
 -- Names
 
@@ -206,9 +210,9 @@ newest_below name ls first (suc n) = by (locals_rules.has_name name (locals_rule
     by true h = omega arith
     by false h = below_more (locals_rules.newest name ls first n) (first + n) (first + suc n) (omega arith) h
 
-module _ (f : Found) (locals : List ℕ) (st : AnalysisStack) (name : ℕ)
+module _ (f : std.Option LocalId) (locals : List ℕ) (st : AnalysisStack) (name : ℕ)
     (searched : (total : ℕ) → 0 + st.locals ≤ total → found f ≡ locals_rules.newest name (locals_of total locals) 0 st.locals) where
-  pub found_there : (id : LocalId) → f ≡ At id → id.0 < st.locals
+  pub found_there : (id : LocalId) → f ≡ Some id → id.0 < st.locals
   unfolding found
   found_there id e =
       let below = newest_below name (locals_of st.locals locals) 0 st.locals in
@@ -223,8 +227,8 @@ module _ (f : Found) (locals : List ℕ) (st : AnalysisStack) (name : ℕ)
       rw e (ap (locals_rules.newest name (locals_of st.locals locals) 0) (length_locals st.locals locals) ∙ sym (searched st.locals (omega arith)))
 
   module _ (tree : List ℕ) (here : Place) {out diagnostics : List ℕ} {at : ℕ} (is_name : name ≡ number_at tree (at + 2)) where
-    pub variable_found : {locals' : List ℕ} {used : AnalysisStack} (id : LocalId) → UsedLocal used locals locals' st here.depth id.0 → f ≡ At id
-        → Uses (Slot used id) out out diagnostics diagnostics locals locals' st at (λ limits σ. variable_step limits tree at (place_of here) σ)
+    pub variable_found : {locals' : List ℕ} {used : AnalysisStack} (id : LocalId) → UsedLocal used locals locals' st here.depth id.0 → f ≡ Some id
+        → Uses (Ok (used, Some id)) out out diagnostics diagnostics locals locals' st at (λ limits σ. variable_step limits tree at (place_of here) σ)
     unfolding variable_step walk.use_local given place_of found Left
     variable_found id u e = record {
       left = record {
@@ -238,20 +242,18 @@ module _ (f : Found) (locals : List ℕ) (st : AnalysisStack) (name : ℕ)
       };
     }
 
-    pub variable_unknown : {r : Step} {out' diagnostics' : List ℕ} {span : ℕ} → BadPlace r out out' diagnostics diagnostics' st at 1 name span 3
-        → span ≡ number_at tree (at + 6) → f ≡ Nothing
-        → Uses (Done r) out out' diagnostics diagnostics' locals locals st at (λ limits σ. variable_step limits tree at (place_of here) σ)
-    unfolding variable_step walk.use_local given found Left
-    variable_unknown was_bad is_span e = record {
-      left = record {
-        steps = λ l fs cs rs fit.
-            let made = bad_steps was_bad l locals fs cs rs fit in
-            record {
-              same = λ limits is. made.same limits is ∙ rw (← is_name, whole_search (buffers out diagnostics locals fs cs rs) refl, e, is_span) refl;
-              fit = made.fit;
-            };
-      };
-    }
+    pub variable_unknown : {r : Step} {out' diagnostics' : List ℕ} {span : ℕ} {made : Used} → BadPlace r out out' diagnostics diagnostics' st at 1 name span 3
+        → span ≡ number_at tree (at + 6) → f ≡ None → Ends made r
+        → Uses made out out' diagnostics diagnostics' locals locals st at (λ limits σ. variable_step limits tree at (place_of here) σ)
+    unfolding variable_step walk.use_local given found
+    variable_unknown was_bad is_span e ends = step_done ends (record {
+      steps = λ l fs cs rs fit.
+          let made = bad_steps was_bad l locals fs cs rs fit in
+          record {
+            same = λ limits is. made.same limits is ∙ rw (← is_name, whole_search (buffers out diagnostics locals fs cs rs) refl, e, is_span) refl;
+            fit = made.fit;
+          };
+    })
 
 -- A name, by its mark
 
@@ -277,45 +279,63 @@ module _ (tree : List ℕ) (here : Place) {used : Used} {out out' diagnostics di
 
 module _ {used : Used} {out out' diagnostics diagnostics' locals locals' : List ℕ} {st : AnalysisStack} {at : ℕ} {step : rules.Limits → rules.AnalysisStack → Outcome rules.AnalysisStack}
     (u : Uses used out out' diagnostics diagnostics' locals locals' st at step) where
-  slot_left : {after : AnalysisStack} {id : LocalId} → used ≡ Slot after id → SlotLeft after id.0 out out' diagnostics diagnostics' locals locals' st at step
-  unfolding Left
-  slot_left e = subst (λ (r : Used). Left r out out' diagnostics diagnostics' locals locals' st at step) e u.left
+  left_so : {to : Used} → used ≡ to → Left to out out' diagnostics diagnostics' locals locals' st at step
+  left_so e = subst (λ (r : Used). Left r out out' diagnostics diagnostics' locals locals' st at step) e u.left
 
-  step_made : {r : Step} → used ≡ Done r → StepMade r out out' diagnostics diagnostics' locals locals' st step
+  slot_left : {after : AnalysisStack} {slot : std.Option LocalId} {id : LocalId} → used ≡ Ok (after, slot) → slot ≡ Some id
+      → SlotLeft after id.0 out out' diagnostics diagnostics' locals locals' st at step
   unfolding Left
-  step_made e = subst (λ (r : Used). Left r out out' diagnostics diagnostics' locals locals' st at step) e u.left
+  slot_left {after} e is = left_so (e ∙ ap (λ (x : std.Option LocalId). Ok (after, x)) is)
+
+  step_made : {after : AnalysisStack} {slot : std.Option LocalId} → used ≡ Ok (after, slot) → slot ≡ None
+      → StepMade (Ok after) out out' diagnostics diagnostics' locals locals' st step
+  unfolding Left
+  step_made {after} e is = left_so (e ∙ ap (λ (x : std.Option LocalId). Ok (after, x)) is)
+
+  step_refused : {why : Refusal} → used ≡ Err why → StepMade (Err why) out out' diagnostics diagnostics' locals locals' st step
+  unfolding Left
+  step_refused e = left_so e
 
   -- what was kept of the frames still is
-  pub slot_kept : {after : AnalysisStack} {id : LocalId} {frames captures : List ℕ} → used ≡ Slot after id → Kept st.frames frames st.captures captures
+  pub slot_kept : {after : AnalysisStack} {slot : std.Option LocalId} {id : LocalId} {frames captures : List ℕ} → used ≡ Ok (after, slot) → slot ≡ Some id → Kept st.frames frames st.captures captures
       → Kept after.frames frames after.captures captures
-  slot_kept e kept = rw ((slot_left e).as_many_frames, (slot_left e).as_many_captures) kept
+  slot_kept e is kept = rw ((slot_left e is).as_many_frames, (slot_left e is).as_many_captures) kept
 
-  pub slot_written : {after : AnalysisStack} {id : LocalId} {r : Step} {out'' frames captures captures' : List ℕ} {l : Limits} → used ≡ Slot after id
+  pub slot_written : {after : AnalysisStack} {slot : std.Option LocalId} {id : LocalId} {r : Step} {out'' frames captures captures' : List ℕ} {l : Limits} → used ≡ Ok (after, slot) → slot ≡ Some id
       → SlotEmitted r out' out'' frames captures captures' l after at id.0
       → (references : List ℕ) → Fit l (buffers out diagnostics locals frames captures references) st
       → Steps r l (buffers out diagnostics locals frames captures references) (buffers out'' diagnostics' locals' frames captures' references) st step
-  slot_written {after = after} {id = id} {frames = fs} {captures = cs} {l = l} e emitted rs fit =
-      let left = slot_left e in
+  slot_written {after = after} {id = id} {frames = fs} {captures = cs} {l = l} e is emitted rs fit =
+      let left = slot_left e is in
       record {
-        same = λ limits is.
+        same = λ limits room.
             emitted.same diagnostics' locals' rs
-            ∙ ap (λ (L : rules.Limits). scoping.emit_slot L at id.0 (stack (buffers out' diagnostics' locals' fs cs rs) after)) (left.room l ∙ sym is)
+            ∙ ap (λ (L : rules.Limits). scoping.emit_slot L at id.0 (stack (buffers out' diagnostics' locals' fs cs rs) after)) (left.room l ∙ sym room)
             ∙ left.same limits fs cs rs;
         fit = emitted.fit diagnostics' locals' rs (left.fit l fs cs rs fit);
       }
 
+abbrev then_place : List ℕ → Place → (at mark : ℕ) → rules.Limits → rules.AnalysisStack → Outcome (rules.AnalysisStack × ℕ)
+then_place tree here at mark limits σ = and_place (at + 10) (name_step limits tree mark at (place_of here) σ)
+
 module _ (tree : List ℕ) (here : Place) {used : Used} {out out' diagnostics diagnostics' locals locals' : List ℕ} {st : AnalysisStack} {at mark : ℕ}
     (u : Uses used out out' diagnostics diagnostics' locals locals' st at (λ limits σ. name_step limits tree mark at (place_of here) σ))
-    {r : Step} {w : Walked} (is : w ≡ walked_to (at + 10) r) {frames captures : List ℕ} {limits : Limits} where
-  pub name_slot : {after : AnalysisStack} {id : LocalId} {out'' captures' : List ℕ} → used ≡ Slot after id → SlotEmitted r out' out'' frames captures captures' limits after at id.0
+    {frames captures : List ℕ} {limits : Limits} where
+  pub name_slot : {r : Step} {w : Walked} {after : AnalysisStack} {slot : std.Option LocalId} {id : LocalId} {out'' captures' : List ℕ} → used ≡ Ok (after, slot) → slot ≡ Some id
+      → SlotEmitted r out' out'' frames captures captures' limits after at id.0 → Placed w r (at + 10)
       → NameAnalyzed w tree out out'' diagnostics diagnostics' locals locals' frames captures captures' limits st at mark here
-  name_slot e emitted = record {
-    walks = λ rs fit.
-        walks_behind (at + 10) (λ limits σ. and_place (at + 10) (name_step limits tree mark at (place_of here) σ)) is (slot_written u e emitted rs fit) (λ limits. refl);
+  name_slot e is emitted ends = record {
+    walks = λ rs fit. walks_behind (at + 10) (then_place tree here at mark) ends (slot_written u e is emitted rs fit) (λ limits. refl);
   }
 
-  pub name_done : used ≡ Done r → NameAnalyzed w tree out out' diagnostics diagnostics' locals locals' frames captures captures limits st at mark here
-  name_done e = record {
-    walks = λ rs fit.
-        walks_behind (at + 10) (λ limits σ. and_place (at + 10) (name_step limits tree mark at (place_of here) σ)) is ((step_made u e).steps limits frames captures rs fit) (λ limits. refl);
+  pub name_done : {after : AnalysisStack} {slot : std.Option LocalId} → used ≡ Ok (after, slot) → slot ≡ None
+      → NameAnalyzed (Ok (after, at + 10)) tree out out' diagnostics diagnostics' locals locals' frames captures captures limits st at mark here
+  name_done e is = record {
+    walks = λ rs fit. walks_behind (at + 10) (then_place tree here at mark) (placed (at + 10) refl) ((step_made u e is).steps limits frames captures rs fit) (λ limits. refl);
+  }
+
+  pub name_refused : {why : Refusal} → used ≡ Err why
+      → NameAnalyzed (Err why) tree out out' diagnostics diagnostics' locals locals' frames captures captures limits st at mark here
+  name_refused e = record {
+    walks = λ rs fit. walks_behind (at + 10) (then_place tree here at mark) (refused (at + 10) refl) ((step_refused u e).steps limits frames captures rs fit) (λ limits. refl);
   }

@@ -1,6 +1,8 @@
 -- What each record's walk answers and leaves, whatever the buffers hold that it does not touch. A primed list is what it leaves of a buffer.
 -- Assumes nothing.
-use Rattle.std.specs.Prelude.{ℕ, zero, suc, ◌+◌, List, ◌≡◌, eqb}
+use Rattle.std.specs.Prelude.{ℕ, zero, suc, ◌+◌, List, ◌≡◌, eqb, Result, Ok, Err, Option, Some, None}
+use Rattle.refusal.specs.declared.Refusal.{Refusal}
+use Rattle.value_local.specs.declared.LocalId.{LocalId}
 use Rattle.rules.specs.Outcome.{Outcome, choose}
 use Rattle.rules.specs.Numbers.{number_at, code, ID}
 use Rattle.rules.specs.State as rules
@@ -12,12 +14,17 @@ use Rattle.state.specs.Walks.{place_of, Walks, Steps}
 use Rattle.state.specs.declared.Place.{Place}
 use Rattle.state.specs.declared.AnalysisStack.{AnalysisStack}
 use Rattle.state.specs.declared.Limits.{Limits}
-use Rattle.state.specs.declared.Step.{Step}
-use Rattle.state.specs.declared.Walked.{Walked}
-use Rattle.step_name.specs.declared.Used.{Used}
-use Rattle.step_name.specs.declared.Used.TheVariants.{Slot, Done}
+use Rattle.step_name.specs.declared.Identity.{Identity}
+use Rattle.step_name.specs.declared.Identity.TheVariants as identity
+use Rattle.state.specs.Seen.{Step, Walked}
 
 -- self, super and $
+
+-- the number that says it in the tree
+abbrev pub kind_of : Identity → ℕ
+kind_of identity.This = 0
+kind_of identity.Super = 1
+kind_of identity.Dollar = 2
 
 -- the id of the local that self (0), super (1) or $ (2) stands for inside an object
 unfoldable pub identity_id : (which : ℕ) → Place → ℕ
@@ -76,10 +83,15 @@ pub record StepMade (r : Step) (out out' diagnostics diagnostics' locals locals'
       → Fit l (buffers out diagnostics locals frames captures references) st
       → Steps r l (buffers out diagnostics locals frames captures references) (buffers out' diagnostics' locals' frames captures references) st step
 
+-- the state once a name is used, and the local whose slot is still to be written, by its name in the code
+abbrev pub Used : Type 0
+Used = Result (AnalysisStack × Option LocalId) Refusal
+
 unfoldable pub Left : Used → (out out' diagnostics diagnostics' locals locals' : List ℕ) → AnalysisStack → (at : ℕ)
     → (rules.Limits → rules.AnalysisStack → Outcome rules.AnalysisStack) → Type 0
-Left (Slot after id) out out' diagnostics diagnostics' locals locals' st at step = SlotLeft after id.0 out out' diagnostics diagnostics' locals locals' st at step
-Left (Done r) out out' diagnostics diagnostics' locals locals' st at step = StepMade r out out' diagnostics diagnostics' locals locals' st step
+Left (Ok (after, Some id)) out out' diagnostics diagnostics' locals locals' st at step = SlotLeft after id.0 out out' diagnostics diagnostics' locals locals' st at step
+Left (Ok (after, None)) out out' diagnostics diagnostics' locals locals' st at step = StepMade (Ok after) out out' diagnostics diagnostics' locals locals' st step
+Left (Err why) out out' diagnostics diagnostics' locals locals' st at step = StepMade (Err why) out out' diagnostics diagnostics' locals locals' st step
 
 -- what using a name leaves of its step
 pub record Uses (r : Used) (out out' diagnostics diagnostics' locals locals' : List ℕ) (st : AnalysisStack) (at : ℕ)

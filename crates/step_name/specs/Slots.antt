@@ -7,7 +7,7 @@ use Rattle.table_captures.specs.declared.LSlot.{LSlot}
 use Rattle.state.specs.Seen.{buffers, stack, seen, limits_of, Fit, Fits}
 use Rattle.state.specs.declared.AnalysisStack.{AnalysisStack}
 use Rattle.state.specs.declared.Limits.{Limits}
-use Rattle.state.specs.declared.Step.{Step}
+use Rattle.state.specs.Seen.{Step}
 
 pub record SlotWritten (r : Step) (out out' : List ℕ) (st : AnalysisStack) (place : ℕ) (s : LSlot) : Type 0 where
   pub same : (l : Limits) (diagnostics locals frames captures references : List ℕ)

@@ -6,16 +6,17 @@ ghost use Rattle.std.specs.Prelude.{◌≡◌, ◌+◌, ◌*◌, ◌≤◌, ◌<
 ghost use Rattle.rules.specs.Numbers.{number_at, code, ID as identity};
 ghost use Rattle.resolver.specs.Kept.{Kept};
 ghost use Rattle.state.specs.Walks.{place_of, Stands};
-ghost use Rattle.step_name.specs.Answers.{identity_id, identity_step, variable_step, name_step, UsedObject, UsedLocal, Uses, NameAnalyzed};
+ghost use Rattle.step_name.specs.Answers.{kind_of, identity_id, identity_step, variable_step, name_step, UsedObject, UsedLocal, Uses, NameAnalyzed};
 ghost use Rattle.step_name.specs.Slots.{SlotWritten, SlotEmitted};
 
 use bytes_read::number_at;
 use bytes_records::{ID, offsets};
-use find_name::{Found, newest};
-use resolver::{Resolved, resolve_to_slot};
-use state::{AnalysisStack, Limits, Place, Step, Walked, walked_to};
+use find_name::newest;
+use refusal::Refusal;
+use resolver::resolve_to_slot;
+use state::{AnalysisStack, Limits, Place, Step, Walked};
 use step_touch::{touch_local, touch_object};
-use step_write::{bad_place, emit};
+use step_write::{BadKind, Code, bad_place, emit};
 use table_captures::{LSlot, slot_number};
 use value_local::LocalId;
 
@@ -43,7 +44,7 @@ fn emit_slot(
     requires { (Kept st.frames frames.now st.captures captures.old) × (16 * limits.max_captures ≤ length captures.old) }
     ensures { SlotEmitted result out.old out.new frames.now captures.old captures.new limits st place id.0 }
 {
-    let r = resolve_to_slot(
+    let resolved = resolve_to_slot(
         frames,
         captures,
         st.frames,
@@ -51,55 +52,70 @@ fn emit_slot(
         limits.max_captures,
         id,
     );
-    match r {
-        Resolved::To(slot, count) => {
-            let mut after = st;
-            after.captures = count;
-            write_slot(out, after, place, slot)
-        }
-        Resolved::Refused(why) => Step::Refused(why, place),
+    match resolved {
+        Ok((slot, captures)) => write_slot(out, AnalysisStack { captures, ..st }, place, slot),
+        Err(reason) => Err(Refusal { reason, place }),
     }
 }
 
-// What using a name leaves to do: to write the slot of its local, or nothing.
-#[derive(Clone, Copy)]
-pub enum Used {
-    Slot(AnalysisStack, LocalId),
-    Done(Step),
+// The state once a name is used, and the local whose slot is still to be written, if there is one.
+pub type Used = Result<(AnalysisStack, Option<LocalId>), Refusal>;
+
+// Which name of an object a record says.
+#[derive(Clone, Copy, Debug, PartialEq, Eq)]
+enum Identity {
+    This,
+    Super,
+    Dollar,
 }
 
-// A use of an object's `this` as self (0), super (1) or $ (2). Of what the use changes only the dependence is taken, so that
-// the counts are seen to stay.
-fn use_object(locals: &[u32], st: AnalysisStack, which: u32, id: LocalId) -> AnalysisStack
+// The name of a number in the tree, which the first walk found to be one of the three.
+fn identity_of(kind: u32) -> Identity
+    requires { kind < 3 }
+    ensures { kind_of result ≡ kind }
+{
+    match kind {
+        0 => Identity::This,
+        1 => Identity::Super,
+        _ => Identity::Dollar,
+    }
+}
+
+// A use of an object's `this`. Of what the use changes only the dependence is taken, so that the counts are seen to stay.
+fn use_object(locals: &[u32], st: AnalysisStack, which: Identity, id: LocalId) -> AnalysisStack
     requires { (16 * st.locals ≤ length locals.now) × (id.0 < st.locals) }
-    ensures { UsedObject result locals.now st which id.0 }
+    ensures { UsedObject result locals.now st (kind_of which) id.0 }
 {
     let touched = touch_object(locals, st, id);
-    let taint = touched.taint;
-    let mut after = st;
-    after.taint = taint;
+    let after = AnalysisStack {
+        taint: touched.taint,
+        ..st
+    };
     match which {
-        0 => {
-            after.self_used = true;
-        }
-        1 => {
-            after.super_used = true;
-        }
-        _ => {
-            after.dollar_used = true;
-        }
+        Identity::This => AnalysisStack {
+            self_used: true,
+            ..after
+        },
+        Identity::Super => AnalysisStack {
+            super_used: true,
+            ..after
+        },
+        Identity::Dollar => AnalysisStack {
+            dollar_used: true,
+            ..after
+        },
     }
-    after
 }
 
 // The local of self, super or $ inside an object.
-fn identity_id(which: u32, here: Place) -> LocalId
-    ensures { result.0 ≡ identity_id which here }
+#[tactic(auto, unfolding(crate::specs::Answers::identity_id))]
+fn identity_id(which: Identity, here: Place) -> LocalId
+    ensures { result.0 ≡ identity_id (kind_of which) here }
 {
-    if 2 <= which {
-        return here.dollar_alias;
+    match which {
+        Identity::This | Identity::Super => here.this_local,
+        Identity::Dollar => here.dollar_alias,
     }
-    here.this_local
 }
 
 // self, super or $: inside an object the local that it stands for is used, whose slot is still to be written, or `SU` is;
@@ -118,17 +134,20 @@ fn use_identity(
     ensures { Uses result out.old out.new diagnostics.old diagnostics.new locals.now locals.now st at (λ limits σ.
         identity_step limits tree.now at (place_of here) σ) }
 {
-    let which = number_at(tree, at + offsets::ID_KIND);
+    let kind = number_at(tree, at + offsets::ID_KIND);
     if here.in_object {
+        let which = identity_of(kind);
         let id = identity_id(which, here);
         let after = use_object(locals, st, which, id);
-        if which == 1 {
-            return Used::Done(emit(out, after, at, b"SU", &[]));
+        if which == Identity::Super {
+            return Ok((emit(out, after, at, b"SU", &[])?, None));
         }
-        return Used::Slot(after, id);
+        return Ok((after, Some(id)));
     }
     let span = number_at(tree, at + offsets::ID_SPAN);
-    Used::Done(bad_place(out, diagnostics, st, at, 3 + which, 0, span, which))
+    let code = Code::SelfOutside as u32 + kind;
+    let told = bad_place(out, diagnostics, st, at, code, 0, span, kind)?;
+    Ok((told, None))
 }
 
 // A use of a local, of whose changes to the state only the dependence is taken, as above.
@@ -137,10 +156,10 @@ fn use_local(locals: &mut [u32], st: AnalysisStack, depth: u32, id: LocalId) -> 
     ensures { UsedLocal result locals.old locals.new st depth id.0 }
 {
     let touched = touch_local(locals, st, depth, id);
-    let taint = touched.taint;
-    let mut after = st;
-    after.taint = taint;
-    after
+    AnalysisStack {
+        taint: touched.taint,
+        ..st
+    }
 }
 
 // The newest local with the name is used, whose slot is still to be written; where there is none, error 1 and a bad place.
@@ -158,17 +177,15 @@ fn use_variable(
         variable_step limits tree.now at (place_of here) σ) }
 {
     let name = number_at(tree, at + offsets::VA_NAME);
-    let found = newest(locals, name, 0, st.locals as usize);
-    match found {
-        Found::At(id) => {
-            let after = use_local(locals, st, here.depth, id);
-            Used::Slot(after, id)
-        }
-        Found::Nothing => {
-            let span = number_at(tree, at + offsets::VA_SPAN);
-            Used::Done(bad_place(out, diagnostics, st, at, 1, name, span, 3))
-        }
-    }
+    let Some(id) = newest(locals, name, 0, st.locals as usize) else {
+        let span = number_at(tree, at + offsets::VA_SPAN);
+        let code = Code::Undefined as u32;
+        let bad = BadKind::Name as u32;
+        let told = bad_place(out, diagnostics, st, at, code, name, span, bad)?;
+        return Ok((told, None));
+    };
+    let after = use_local(locals, st, here.depth, id);
+    Ok((after, Some(id)))
 }
 
 // A name's record up to its slot, by its mark.
@@ -216,12 +233,10 @@ pub fn analyze_name(
         frames.now captures.old captures.new limits st at mark here }
 {
     let next = at + offsets::VA_SIZE;
-    let used = use_name(tree, out, diagnostics, locals, st, at, mark, here);
-    match used {
-        Used::Slot(after, id) => {
-            let emitted = emit_slot(out, frames, captures, limits, after, at, id);
-            walked_to(emitted, next)
-        }
-        Used::Done(step) => walked_to(step, next),
-    }
+    let (used, slot) = use_name(tree, out, diagnostics, locals, st, at, mark, here)?;
+    let Some(id) = slot else {
+        return Ok((used, next));
+    };
+    let written = emit_slot(out, frames, captures, limits, used, at, id)?;
+    Ok((written, next))
 }

@@ -4,7 +4,6 @@ use mathlib.Core.Bool.{Bool, true, false}
 use mathlib.Core.List.{List, ◌∷◌}
 use mathlib.Core.Path.{◌≡◌, refl, sym, ap, subst, ◌∙◌}
 use native.Mathlib.Omega.{arith}
-use borrow.Author.Rules.{rules}
 use lib.ListN.{length}
 use Rattle.rules.specs.Outcome.{Outcome, ok, refuse, ◌>>=◌, choose}
 use Rattle.rules.specs.Frames.{ClosureFrame, new_frame, top}
@@ -23,10 +22,6 @@ use Rattle.state.specs.Walks.{place_of, Walks, Steps}
 use Rattle.state.specs.declared.AnalysisStack.{AnalysisStack}
 use Rattle.state.specs.declared.Limits.{Limits}
 use Rattle.state.specs.declared.Place.{Place}
-use Rattle.state.specs.declared.Step.{Step}
-use Rattle.state.specs.declared.Step.TheVariants.{Ok, Refused}
-use Rattle.state.specs.declared.Walked.{Walked}
-use Rattle.state.specs.declared.Walked.TheVariants as WalkedAs
 use Rattle.state.proofs.Changing.{marks_to}
 use Rattle.state.proofs.Fitting.{fit_values}
 use Rattle.step_frame.specs.Answers.{FrameOpened}
@@ -36,6 +31,10 @@ use Rattle.step_declare.specs.Answers.{Fitting, BindsDefined, ParamsDefined}
 use Rattle.resolver.proofs.Laws.{length_frames}
 use Rattle.step_declare.proofs.Turns.{pushed_open}
 use Rattle.step_open.specs.Answers.{Opening, LocalBegun, FunctionBegun, ObjectEntered, opened_object, ObjectOpened, ObjectBegun}
+use Rattle.std.specs.Prelude.{Ok, Err}
+use Rattle.refusal.specs.declared.Refusal.{Refusal}
+use Rattle.refusal.specs.Meaning.{number_of}
+use Rattle.state.specs.Seen.{Step, Walked}
 
 -- A step and a walk after it
 
@@ -43,8 +42,8 @@ module _ {r : Step} {l : Limits} {b b' : Buffers} {st : AnalysisStack} {step : r
   pub took_ok : (st' : AnalysisStack) → r ≡ Ok st' → (L : rules.Limits) → L ≡ limits_of l b.out b.diagnostics → step L (stack b st) ≡ ok (stack b' st')
   took_ok st' e L is = sym (took.same L is) ∙ ap (λ (x : Step). seen x b') e
 
-  pub took_refused : (number place : ℕ) → r ≡ Refused number place → (L : rules.Limits) → L ≡ limits_of l b.out b.diagnostics → step L (stack b st) ≡ refuse number place
-  took_refused number place e L is = sym (took.same L is) ∙ ap (λ (x : Step). seen x b') e
+  pub took_refused : (why : Refusal) → r ≡ Err why → (L : rules.Limits) → L ≡ limits_of l b.out b.diagnostics → step L (stack b st) ≡ refuse (number_of why.reason) why.place
+  took_refused why e L is = sym (took.same L is) ∙ ap (λ (x : Step). seen x b') e
 
   pub took_fit : (st' : AnalysisStack) → r ≡ Ok st' → Fit l b' st'
   took_fit st' e = subst (λ (x : Step). Fits l x b') e took.fit
@@ -60,10 +59,10 @@ module _ {r : Step} {l : Limits} {b b' : Buffers} {st : AnalysisStack} {step : r
       fit = walks.fit;
     }
 
-    pub stops_walks : (number place : ℕ) → r ≡ Refused number place → Walks (WalkedAs.Refused number place) l b b' st (λ L st. step L st >>= λ st. rest L st)
+    pub stops_walks : (why : Refusal) → r ≡ Err why → Walks (Err why) l b b' st (λ L st. step L st >>= λ st. rest L st)
     unfolding ◌>>=◌
-    stops_walks number place e = record {
-      same = λ L is. sym (ap (λ (x : Outcome rules.AnalysisStack). x >>= λ st. rest L st) (took_refused number place e L is));
+    stops_walks why e = record {
+      same = λ L is. sym (ap (λ (x : Outcome rules.AnalysisStack). x >>= λ st. rest L st) (took_refused why e L is));
       fit = tt;
     }
 
@@ -129,18 +128,18 @@ module _ {r : Step} {frames frames' : List ℕ} {l : Limits} {st : AnalysisStack
 -- `LO` and `FN`
 
 module _ {s diagnostics locals frames frames₁ : List ℕ} {l : Limits} {st : AnalysisStack} {at n depth : ℕ} {r₁ : Step} (opened : FrameOpened r₁ frames frames₁ l st at true) where
-  pub local_refused : {number place : ℕ} → r₁ ≡ Refused number place → LocalBegun (WalkedAs.Refused number place) s diagnostics diagnostics locals locals frames frames₁ l st at n depth
+  pub local_refused : {why : Refusal} → r₁ ≡ Err why → LocalBegun (Err why) s diagnostics diagnostics locals locals frames frames₁ l st at n depth
   unfolding begun_local
-  local_refused {number} {place} e = record {
+  local_refused {why} e = record {
     begun = λ levels read out captures references f.
-        stops_walks (opened_steps opened out diagnostics locals captures references f) (λ L st. run_define_binds s L levels n (at + 6) depth st) number place e;
+        stops_walks (opened_steps opened out diagnostics locals captures references f) (λ L st. run_define_binds s L levels n (at + 6) depth st) why e;
   }
 
-  pub function_refused : {number place : ℕ} → r₁ ≡ Refused number place → FunctionBegun (WalkedAs.Refused number place) s diagnostics diagnostics locals locals frames frames₁ l st at n depth
+  pub function_refused : {why : Refusal} → r₁ ≡ Err why → FunctionBegun (Err why) s diagnostics diagnostics locals locals frames frames₁ l st at n depth
   unfolding begun_function
-  function_refused {number} {place} e = record {
+  function_refused {why} e = record {
     begun = λ levels read out captures references f.
-        stops_walks (opened_steps opened out diagnostics locals captures references f) (λ L st. run_define_params s L levels n (at + 10) depth st) number place e;
+        stops_walks (opened_steps opened out diagnostics locals captures references f) (λ L st. run_define_params s L levels n (at + 10) depth st) why e;
   }
 
   module _ {diagnostics' locals' frames' : List ℕ} {st₁ : AnalysisStack} {r : Walked} (e : r₁ ≡ Ok st₁) where
@@ -162,22 +161,19 @@ module _ {s diagnostics locals frames frames₁ : List ℕ} {l : Limits} {st : A
           then_walks steps (λ L st. run_define_params s L levels n (at + 10) depth st) st₁ e refl (defined.defined levels read out captures references (took_fit steps st₁ e));
     }
 
--- what answers every need of the two functions
-pub ruleset beginning_needs = (rules, opened_framed, opened_fitting, local_begun, local_refused, function_begun, function_refused)
-
 -- `OB`
 
-pub entered_another : (st : AnalysisStack) (here : Place) → here.in_object ≡ true → ObjectEntered (marks_to false false st.dollar_used st) st here
+pub entered_another : (st : AnalysisStack) (here : Place) {dollar : Bool} → here.in_object ≡ true → dollar ≡ st.dollar_used → ObjectEntered (marks_to false false dollar st) st here
 unfolding stack walk.entered_use rules.with_object_use choose
-entered_another st here e = record {
-  same = λ b. rw (outermost_so here, e);
+entered_another st here e d = record {
+  same = λ b. rw (outermost_so here, e, d);
   fit = λ l b f. fit_values f;
 }
 
-pub entered_first : (st : AnalysisStack) (here : Place) → here.in_object ≡ false → ObjectEntered (marks_to false false false st) st here
+pub entered_first : (st : AnalysisStack) (here : Place) {dollar : Bool} → here.in_object ≡ false → dollar ≡ here.in_object → ObjectEntered (marks_to false false dollar st) st here
 unfolding stack walk.entered_use rules.with_object_use choose
-entered_first st here e = record {
-  same = λ b. rw (outermost_so here, e);
+entered_first st here e d = record {
+  same = λ b. rw (outermost_so here, d, e);
   fit = λ l b f. fit_values f;
 }
 
@@ -195,12 +191,12 @@ module _ {st entered : AnalysisStack} {here : Place} (enters : ObjectEntered ent
         fit = steps.fit;
       }
 
-  pub object_refused : {number place : ℕ} → r₁ ≡ Refused number place → ObjectOpened (Refused number place) locals locals frames frames₁ l st at here
+  pub object_refused : {why : Refusal} → r₁ ≡ Err why → ObjectOpened (Err why) locals locals frames frames₁ l st at here
   unfolding opened_object ◌>>=◌
-  object_refused {number} {place} e = record {
+  object_refused {why} e = record {
     opened = λ out diagnostics captures references f. record {
       same = λ L is. sym (ap (λ (x : Outcome rules.AnalysisStack). x >>= λ st. scoping.define_this L at (place_of here).depth st)
-          (took_refused (object_frame out diagnostics captures references f) number place e L is));
+          (took_refused (object_frame out diagnostics captures references f) why e L is));
       fit = tt;
     };
   }
@@ -244,11 +240,11 @@ unfolding opened_object begun_object
 begun_as L s levels n p binds h st = bind_assoc (rules_writing.open_frame L p true (rules.with_object_use (walk.entered_use (walk.is_outermost h) st.object_use) st)) _ _
 
 module _ {r₁ : Step} {locals locals₁ frames frames₁ : List ℕ} {l : Limits} {st : AnalysisStack} {at : ℕ} {here : Place} (opened : ObjectOpened r₁ locals locals₁ frames frames₁ l st at here) where
-  pub begun_refused : {s diagnostics : List ℕ} {binds n number place : ℕ} → r₁ ≡ Refused number place
-      → ObjectBegun (WalkedAs.Refused number place) s diagnostics diagnostics locals locals₁ frames frames₁ l st at binds n here
-  begun_refused {s} {diagnostics} {binds} {n} {number} {place} e = record {
+  pub begun_refused : {s diagnostics : List ℕ} {binds n : ℕ} {why : Refusal} → r₁ ≡ Err why
+      → ObjectBegun (Err why) s diagnostics diagnostics locals locals₁ frames frames₁ l st at binds n here
+  begun_refused {s} {diagnostics} {binds} {n} {why} e = record {
     begun = λ levels read out captures references f.
-        let walks = stops_walks (opened.opened out diagnostics captures references f) (λ L st. run_define_binds s L levels n binds (place_of here).depth st) number place e in
+        let walks = stops_walks (opened.opened out diagnostics captures references f) (λ L st. run_define_binds s L levels n binds (place_of here).depth st) why e in
         record { same = λ L is. walks.same L is ∙ begun_as L s levels n at binds (place_of here) _; fit = walks.fit };
   }
 
@@ -277,6 +273,3 @@ module _ {r₁ : Step} {locals locals₁ frames frames₁ : List ℕ} {l : Limit
           let walks = then_walks steps (λ L st. run_define_binds s L levels n binds here.depth st) inside e refl (defined.defined levels read out captures references (took_fit steps inside e)) in
           record { same = λ L is. walks.same L is ∙ begun_as L s levels n at binds (place_of here) _; fit = walks.fit };
     }
-
--- what answers the needs of the two functions
-pub ruleset object_needs = (rules, object_opened, object_refused, object_framed, object_fitting, object_begun, begun_refused)

@@ -12,11 +12,11 @@ use Rattle.value_depths.specs.declared.AnalysisResult.{AnalysisResult}
 use Rattle.state.specs.Seen.{Buffers, buffers, stack, limits_of, Fit}
 use Rattle.state.specs.declared.AnalysisStack.{AnalysisStack}
 use Rattle.state.specs.declared.Limits.{Limits}
-use Rattle.state.specs.declared.Step.{Step}
 use Rattle.state.proofs.Changing.{taint_to}
 use Rattle.state.proofs.Fitting.{fit_values}
 use Rattle.step_frame.specs.Answers.{FrameOpened}
 use Rattle.step_open.specs.Answers.{ValueOpened}
+use Rattle.state.specs.Seen.{Step}
 
 pub fit_depending : {l : Limits} {b : Buffers} {st : AnalysisStack} (a : AnalysisResult) → Fit l b st → Fit l b (taint_to a st)
 fit_depending a f = fit_values f

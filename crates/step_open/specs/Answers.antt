@@ -14,8 +14,7 @@ use Rattle.state.specs.Walks.{place_of, Walks, Steps}
 use Rattle.state.specs.declared.AnalysisStack.{AnalysisStack}
 use Rattle.state.specs.declared.Limits.{Limits}
 use Rattle.state.specs.declared.Place.{Place}
-use Rattle.state.specs.declared.Step.{Step}
-use Rattle.state.specs.declared.Walked.{Walked}
+use Rattle.state.specs.Seen.{Step, Walked}
 
 -- the state fits both tables, with some of the other buffers
 pub record Opening (limits : Limits) (locals frames : List ℕ) (st : AnalysisStack) : Type 0 where

@@ -18,9 +18,10 @@ pub fn open_value(frames: &mut [u32], limits: Limits, st: AnalysisStack, at: usi
     requires { 16 * limits.max_frames ≤ length frames.old }
     ensures { ValueOpened result frames.old frames.new limits st at }
 {
-    let none = AnalysisResult::no_dependence();
-    let mut clean = st;
-    clean.taint = none;
+    let clean = AnalysisStack {
+        taint: AnalysisResult::no_dependence(),
+        ..st
+    };
     open_frame(frames, limits, clean, at, false)
 }
 
@@ -41,23 +42,18 @@ pub fn begin_local(
     ensures { LocalBegun result tree.now diagnostics.old diagnostics.new locals.old locals.new frames.old frames.new
         limits st at n depth }
 {
-    let opened = open_frame(frames, limits, st, at, true);
-    match opened {
-        Step::Ok(inside) => {
-            define_binds(
-                tree,
-                diagnostics,
-                locals,
-                frames,
-                limits,
-                inside,
-                at + offsets::LO_SIZE,
-                n,
-                depth,
-            )
-        }
-        Step::Refused(why, place) => Walked::Refused(why, place),
-    }
+    let inside = open_frame(frames, limits, st, at, true)?;
+    define_binds(
+        tree,
+        diagnostics,
+        locals,
+        frames,
+        limits,
+        inside,
+        at + offsets::LO_SIZE,
+        n,
+        depth,
+    )
 }
 
 // The frame of the `FN` at an offset, and the names of its n parameters.
@@ -77,37 +73,30 @@ pub fn begin_function(
     ensures { FunctionBegun result tree.now diagnostics.old diagnostics.new locals.old locals.new frames.old
         frames.new limits st at n depth }
 {
-    let opened = open_frame(frames, limits, st, at, true);
-    match opened {
-        Step::Ok(inside) => {
-            define_params(
-                tree,
-                diagnostics,
-                locals,
-                frames,
-                limits,
-                inside,
-                at + offsets::FN_SIZE,
-                n,
-                depth,
-            )
-        }
-        Step::Refused(why, place) => Walked::Refused(why, place),
-    }
+    let inside = open_frame(frames, limits, st, at, true)?;
+    define_params(
+        tree,
+        diagnostics,
+        locals,
+        frames,
+        limits,
+        inside,
+        at + offsets::FN_SIZE,
+        n,
+        depth,
+    )
 }
 
 // An object's own marks are not met yet; `$`'s go on, unless it is the outermost.
 fn enter_object(st: AnalysisStack, here: Place) -> AnalysisStack
     ensures { ObjectEntered result st here }
 {
-    let mut entered = st;
-    entered.self_used = false;
-    entered.super_used = false;
-    if here.in_object {
-        return entered;
+    AnalysisStack {
+        self_used: false,
+        super_used: false,
+        dollar_used: here.in_object && st.dollar_used,
+        ..st
     }
-    entered.dollar_used = false;
-    entered
 }
 
 // The frame of the object at an offset, and its `this`.
@@ -123,11 +112,8 @@ fn open_object(
     ensures { ObjectOpened result locals.old locals.new frames.old frames.new limits st at here }
 {
     let entered = enter_object(st, here);
-    let opened = open_frame(frames, limits, entered, at, true);
-    match opened {
-        Step::Ok(inside) => define_this(locals, frames, limits, inside, at, here.depth),
-        Step::Refused(why, place) => Step::Refused(why, place),
-    }
+    let inside = open_frame(frames, limits, entered, at, true)?;
+    define_this(locals, frames, limits, inside, at, here.depth)
 }
 
 // The frame of the object at an offset, its `this`, and its n names, which stand at `binds`.
@@ -148,21 +134,16 @@ pub fn begin_object(
     ensures { ObjectBegun result tree.now diagnostics.old diagnostics.new locals.old locals.new frames.old frames.new
         limits st at binds n here }
 {
-    let opened = open_object(locals, frames, limits, st, at, here);
-    match opened {
-        Step::Ok(inside) => {
-            define_binds(
-                tree,
-                diagnostics,
-                locals,
-                frames,
-                limits,
-                inside,
-                binds,
-                n,
-                here.depth,
-            )
-        }
-        Step::Refused(why, place) => Walked::Refused(why, place),
-    }
+    let inside = open_object(locals, frames, limits, st, at, here)?;
+    define_binds(
+        tree,
+        diagnostics,
+        locals,
+        frames,
+        limits,
+        inside,
+        binds,
+        n,
+        here.depth,
+    )
 }

@@ -17,25 +17,27 @@ pub fn deeper(here: Place) -> Place
     requires { here.depth < 4294967295 }
     ensures { Deeper result here }
 {
-    let mut below = here;
-    below.depth = here.depth + 1;
-    below
+    Place {
+        depth: here.depth + 1,
+        ..here
+    }
 }
 
 // In an object whose `this` has this id.
 pub fn in_object(here: Place, id: u32) -> Place
     ensures { InObject result here id }
 {
-    let this = LocalId(id);
-    let mut alias = this;
-    if here.in_object {
-        alias = here.dollar_alias;
-    }
+    let this_local = LocalId(id);
+    let dollar_alias = if here.in_object {
+        here.dollar_alias
+    } else {
+        this_local
+    };
     Place {
-        depth: here.depth,
         in_object: true,
-        this_local: this,
-        dollar_alias: alias,
+        this_local,
+        dollar_alias,
+        ..here
     }
 }
 

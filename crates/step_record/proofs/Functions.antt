@@ -17,8 +17,6 @@ use Rattle.state.specs.Walks.{naming_of}
 use Rattle.state.specs.declared.AnalysisStack.{AnalysisStack}
 use Rattle.state.specs.declared.Limits.{Limits}
 use Rattle.state.specs.declared.Naming.{Naming}
-use Rattle.state.specs.declared.Step.{Step}
-use Rattle.state.specs.declared.Step.TheVariants.{Ok, Refused}
 use Rattle.state.proofs.Changing.{out_to}
 use Rattle.state.proofs.Fitting.{fit_back}
 use Rattle.step_write.specs.Answers.{level_of, Emitted, Reported}
@@ -26,6 +24,10 @@ use Rattle.step_write.specs.declared.Level.TheVariants.{Warning}
 use Rattle.step_write.proofs.Laws.{limits_same}
 use Rattle.step_write.proofs.Emitting.{emitted_steps}
 use Rattle.step_record.specs.Answers.{TakenBack, IdentityNamed, OtherNamed, FunctionNamed}
+use Rattle.std.specs.Prelude.{Ok, Err}
+use Rattle.refusal.specs.declared.Refusal.{Refusal}
+use Rattle.refusal.specs.Meaning.{number_of}
+use Rattle.state.specs.Seen.{Step}
 
 -- Output taken back
 
@@ -56,10 +58,10 @@ module _ (limits : rules.Limits) (place : ℕ) (span : Span) (start kept : ℕ) 
   unfolding walk.finish_function choose ◌>>=◌
   goes_on T e = ap (λ (o : Outcome rules.AnalysisStack). o >>= λ st. writing.emit limits place IY [] (rules.taken_back start st)) (sym e)
 
-  stops : (why at : ℕ) → refuse why at ≡ writing.report limits place writing.warning 10 0 (walk.naming_span naming span) S
-      → walk.finish_function limits place span start kept naming true S ≡ refuse why at
+  stops : (number at : ℕ) → refuse number at ≡ writing.report limits place writing.warning 10 0 (walk.naming_span naming span) S
+      → walk.finish_function limits place span start kept naming true S ≡ refuse number at
   unfolding walk.finish_function choose ◌>>=◌
-  stops why at e = ap (λ (o : Outcome rules.AnalysisStack). o >>= λ st. writing.emit limits place IY [] (rules.taken_back start st)) (sym e)
+  stops number at e = ap (λ (o : Outcome rules.AnalysisStack). o >>= λ st. writing.emit limits place IY [] (rules.taken_back start st)) (sym e)
 
 module _ (out : List ℕ) {diagnostics diagnostics' : List ℕ} (st : AnalysisStack) (place span start : ℕ) (naming : Naming) {shown : ℕ}
     (shows : span_of shown ≡ walk.naming_span (naming_of naming) (span_of span)) {r₁ : Step}
@@ -73,11 +75,11 @@ module _ (out : List ℕ) {diagnostics diagnostics' : List ℕ} (st : AnalysisSt
       ∙ ap (λ (k : rules.Limits). writing.report k place writing.warning 10 0 (span_of shown) (stack (buffers out diagnostics ls fs cs rs) st)) (sym at)
       ∙ ap (λ (s : Span). writing.report limits place writing.warning 10 0 s (stack (buffers out diagnostics ls fs cs rs) st)) shows
 
-  pub identity_refused : {why p : ℕ} → r₁ ≡ Refused why p → IdentityNamed (Refused why p) out out diagnostics diagnostics' st place span start naming
-  identity_refused {why} {p} is = record {
+  pub identity_refused : {why : Refusal} → r₁ ≡ Err why → IdentityNamed (Err why) out out diagnostics diagnostics' st place span start naming
+  identity_refused {why} is = record {
     steps = λ kept l ls fs cs rs f. record {
       same = λ limits at.
-          sym (stops limits place (span_of span) start kept (naming_of naming) (stack (buffers out diagnostics ls fs cs rs) st) why p (rw is at (reported_is l ls fs cs rs limits at)));
+          sym (stops limits place (span_of span) start kept (naming_of naming) (stack (buffers out diagnostics ls fs cs rs) st) (number_of why.reason) why.place (rw is at (reported_is l ls fs cs rs limits at)));
       fit = tt;
     };
   }

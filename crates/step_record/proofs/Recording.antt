@@ -10,12 +10,12 @@ use Rattle.rules.specs.Walk as walk
 use Rattle.law_runs.specs.Steps.{object_record}
 use Rattle.state.specs.Seen.{Buffers, buffers, stack}
 use Rattle.state.specs.declared.AnalysisStack.{AnalysisStack}
-use Rattle.state.specs.declared.Step.{Step}
 use Rattle.state.proofs.Changing.{marks_to}
 use Rattle.state.proofs.Fitting.{fit_values}
 use Rattle.step_write.specs.Answers.{Emitted}
 use Rattle.step_write.proofs.Emitting.{emitted_steps}
 use Rattle.step_record.specs.Answers.{leave_object, ObjectLeft}
+use Rattle.state.specs.Seen.{Step}
 
 -- an object's record, and the marks of the object around
 pub object_left : {r : Step} {out out' : List ℕ} (st : AnalysisStack) {place : ℕ} (outermost self_used super_used : Bool) (kept assertions values : ℕ) (is_static : Bool) {ns : List ℕ}

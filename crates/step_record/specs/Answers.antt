@@ -11,8 +11,8 @@ use Rattle.state.specs.Seen.{span_of, Buffers, buffers, Fit}
 use Rattle.state.specs.Walks.{naming_of, Steps, Becomes}
 use Rattle.state.specs.declared.AnalysisStack.{AnalysisStack}
 use Rattle.state.specs.declared.Limits.{Limits}
-use Rattle.state.specs.declared.Step.{Step}
 use Rattle.state.specs.declared.Naming.{Naming}
+use Rattle.state.specs.Seen.{Step}
 
 -- Objects
 

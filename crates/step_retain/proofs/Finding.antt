@@ -7,7 +7,7 @@ use native.Mathlib.Omega.{arith}
 use lib.ListN.{length, get_or-eq_default}
 use Rattle.rules.specs.Locals as rules
 use Rattle.rules.specs.Scoping.{is_at, is_kept}
-use Rattle.value_local.specs.Meaning.{local, binding}
+use Rattle.value_local.specs.Meaning.{local, binding_of}
 use Rattle.table_locals.specs.Meaning.{locals_of}
 use Rattle.value_local.specs.declared.LocalDefinition.{LocalDefinition}
 use Rattle.table_locals.proofs.Laws.{length_locals}
@@ -34,7 +34,7 @@ module _ (locals frames : List ℕ) (st : AnalysisStack) (first : ℕ) (is : Fir
 
   pub next_tells : (r : Bool) (l : LocalDefinition) → first + next < st.locals
       → ((n : ℕ) → first + next < n → local l ≡ rules.local_at (locals_of n locals) (first + next))
-      → r ≡ is_at place (binding l.is_record l.place) → IsKept r locals frames st place next
+      → r ≡ is_at place (binding_of l.stands_for) → IsKept r locals frames st place next
   unfolding local
   next_tells r l inside read tells = record {
     same = λ out diagnostics captures references. tells

@@ -22,13 +22,15 @@ use Rattle.table_references.specs.Tables.{AllKept, with_noted, cleared}
 use Rattle.state.specs.Seen.{buffers, stack, limits_of}
 use Rattle.state.specs.declared.AnalysisStack.{AnalysisStack}
 use Rattle.state.specs.declared.Limits.{Limits}
-use Rattle.state.specs.declared.Step.TheVariants.{Ok, Refused}
 use Rattle.state.proofs.Changing.{references_to}
 use Rattle.state.proofs.Fitting.{fit_names, fit_entries}
 use Rattle.step_locals.specs.Answers.{FirstInFrame}
 use Rattle.step_touch.proofs.Laws.{stored}
 use Rattle.table_references.proofs.Keeping.{length_references}
 use Rattle.step_retain.specs.Answers.{SetAnalysis, KeptReferences}
+use Rattle.std.specs.Prelude.{Ok, Err}
+use Rattle.refusal.specs.Meaning.{refuses}
+use Rattle.refusal.specs.declared.Reason.TheVariants as reason
 
 -- The analysis
 
@@ -81,7 +83,7 @@ module _ (locals locals' references references' frames : List ℕ) (limits : Lim
       }
 
   pub no_room_for_references : limits.max_references < length (with_noted id first (locals_of (first + (st.locals - first)) locals) (references_of st.references references))
-      → KeptReferences (Refused 17 place) locals locals' references references' frames limits st place id
+      → KeptReferences (Err (refuses reason.ReferenceLimit place)) locals locals' references references' frames limits st place id
   unfolding stack limits_of
   no_room_for_references many =
       let too_many : limits.max_references < length (with_noted id first (locals_of st.locals locals) (references_of st.references references)) = rw all at many in

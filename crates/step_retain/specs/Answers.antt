@@ -6,7 +6,7 @@ use Rattle.rules.specs.Scoping as scoping
 use Rattle.state.specs.Seen.{buffers, stack, seen, limits_of, Fit, Fits}
 use Rattle.state.specs.declared.AnalysisStack.{AnalysisStack}
 use Rattle.state.specs.declared.Limits.{Limits}
-use Rattle.state.specs.declared.Step.{Step}
+use Rattle.state.specs.Seen.{Step}
 
 -- what keeping a spec asks: the tables are as long as their counts say, references as their limit; each frame's first local is there
 pub record Keepable (limits : Limits) (locals frames references : List ℕ) (st : AnalysisStack) : Type 0 where

@@ -4,40 +4,39 @@
 
 ghost use Rattle.std.specs.Prelude.{◌≡◌, ℕ, ◌*◌, ◌<◌, ◌≤◌, length};
 ghost use Rattle.rules.specs.Scoping.{is_at};
-ghost use Rattle.value_local.specs.Meaning.{binding};
+ghost use Rattle.value_local.specs.Meaning.{binding_of};
 ghost use Rattle.table_rows.specs.Entries.{number};
 ghost use Rattle.step_retain.specs.Answers.{Keepable, IsKept, SetAnalysis, KeptReferences};
 
+use refusal::Reason;
 use state::{AnalysisStack, Limits, Step};
 use step_locals::first_in_frame;
 use table_locals::{local_at, put_local};
-use table_references::Kept;
-use value_local::{LocalId, with_analysis};
+use value_local::{Binding, LocalId};
 
 // Whether a local is that of the record at this place.
-fn is_at(place: usize, is_record: bool, at: u32) -> bool
-    ensures { result ≡ is_at place (binding is_record at) }
+#[tactic(auto, unfolding(rules::specs::Scoping::is_at, value_local::specs::Meaning::binding_of))]
+fn is_at(place: usize, stands_for: Binding) -> bool
+    ensures { result ≡ is_at place (binding_of stands_for) }
 {
-    if is_record {
-        return place == at as usize;
+    match stands_for {
+        Binding::Record(at) => place == at as usize,
+        Binding::External(_) => false,
     }
-    false
 }
 
 // Whether the next of the frame's locals to be kept is that of the record at this place.
+#[tactic(auto, using(crate::proofs::Finding::none_left, crate::proofs::Finding::next_tells))]
 pub fn is_kept(locals: &[u32], frames: &[u32], st: AnalysisStack, place: usize, next: u32) -> bool
     requires { (16 * st.locals ≤ length locals.now) × (16 * st.frames ≤ length frames.now) }
     ensures { IsKept result locals.now frames.now st place next }
 {
     let first = first_in_frame(frames, st);
-    if st.locals <= first {
-        return false;
-    }
-    if st.locals - first <= next {
+    if st.locals.saturating_sub(first) <= next {
         return false;
     }
     let l = local_at(locals, LocalId(first + next));
-    is_at(place, l.is_record, l.place)
+    is_at(place, l.stands_for)
 }
 
 // The local's analysis is that of the present value.
@@ -46,12 +45,12 @@ pub fn set_analysis(locals: &mut [u32], st: AnalysisStack, id: LocalId) -> Analy
     ensures { SetAnalysis result locals.old locals.new st id.0 }
 {
     let l = local_at(locals, id);
-    let taint = st.taint;
-    put_local(locals, id, with_analysis(l, taint));
+    put_local(locals, id, l.with_analysis(st.taint));
     st
 }
 
 // The references that a kept spec has noted, where R allows.
+#[tactic(auto, using(step_locals::proofs::Finding::first_within))]
 pub fn keep_spec_references(
     locals: &mut [u32],
     references: &mut [u32],
@@ -76,12 +75,11 @@ pub fn keep_spec_references(
         st.references as usize,
         limits.max_references as usize,
     );
-    match kept {
-        Kept::To(count) => {
-            let mut after = st;
-            after.references = count as u32;
-            Step::Ok(after)
-        }
-        Kept::NoRoom => Step::Refused(17, place),
-    }
+    let Some(count) = kept else {
+        return Err(Reason::ReferenceLimit.at(place));
+    };
+    Ok(AnalysisStack {
+        references: count as u32,
+        ..st
+    })
 }

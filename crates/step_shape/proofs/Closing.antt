@@ -2,9 +2,8 @@
 use Prim.Native.Nat.{ℕ}
 use mathlib.Core.List.{List, [], ◌∷◌}
 use mathlib.Core.Path.{◌≡◌, refl, sym, ap, ◌∙◌}
-use borrow.Author.Rules.{rules}
 use lib.ListN.{length, get_or}
-use Rattle.rules.specs.Outcome.{Outcome, ok, refuse, ◌>>=◌}
+use Rattle.rules.specs.Outcome.{ok, refuse, ◌>>=◌}
 use Rattle.rules.specs.Numbers.{Mark, AR, FV, code, mark_bytes}
 use Rattle.rules.specs.State as rules
 use Rattle.rules.specs.Writing as writing
@@ -13,22 +12,17 @@ use Rattle.state.specs.Seen.{Buffers, buffers, stack, limits_of, Fit}
 use Rattle.state.specs.Walks.{Walks}
 use Rattle.state.specs.declared.AnalysisStack.{AnalysisStack}
 use Rattle.state.specs.declared.Limits.{Limits}
-use Rattle.state.specs.declared.Step.{Step}
-use Rattle.state.specs.declared.Step.TheVariants.{Ok, Refused}
-use Rattle.state.specs.declared.Walked.{Walked}
-use Rattle.state.specs.declared.Walked.TheVariants as WalkedAs
 use Rattle.step_write.specs.Answers.{Emitted}
 use Rattle.step_frame.specs.Answers.{FrameClosed}
 use Rattle.step_write.proofs.Laws.{limits_same}
-use Rattle.state.specs.Converting.{walked_to}
-use Rattle.step_emit.proofs.Laws.{Placed, placed}
-use Rattle.step_shape.specs.Answers.{ArrayClosed, ValueClosed, AssertionsClosed}
+use Rattle.step_emit.proofs.Laws.{Placed}
+use Rattle.step_shape.specs.Answers.{closed_with, ClosedWith, ArrayClosed, ValueClosed, AssertionsClosed}
+use Rattle.std.specs.Prelude.{Ok, Err}
+use Rattle.refusal.specs.declared.Refusal.{Refusal}
+use Rattle.refusal.specs.Meaning.{number_of}
+use Rattle.state.specs.Seen.{Step, Walked}
 
 -- The rules' steps one after another
-
--- a frame closes and a record follows its shape
-unfoldable pub closed_with : Mark → List ℕ → (place next : ℕ) → rules.Limits → rules.AnalysisStack → Outcome (rules.AnalysisStack × ℕ)
-closed_with m ns place next limits S = writing.close_frame limits place S >>= λ T. and_place next (writing.emit limits place m ns T)
 
 module _ (m : Mark) (ns : List ℕ) (place next : ℕ) (limits : rules.Limits) (S : rules.AnalysisStack) where
   then_emitted : (T : rules.AnalysisStack) → ok T ≡ writing.close_frame limits place S → closed_with m ns place next limits S ≡ and_place next (writing.emit limits place m ns T)
@@ -57,10 +51,10 @@ module _ (out out₁ frames captures captures' : List ℕ) (st : AnalysisStack) 
     fit = ends.fit l _ (emitted.fit l diagnostics locals frames captures' references (closed.fit l diagnostics locals references f));
   }
 
-  without_room : (m : Mark) (ns : List ℕ) (number at : ℕ) → FrameClosed (Refused number at) out out₁ frames captures captures' st place
-      → Walks (WalkedAs.Refused number at) l B (buffers out₁ diagnostics locals frames captures' references) st (closed_with m ns place next)
-  without_room m ns number at closed = record {
-    same = λ limits is. rw is (sym (then_refused m ns place next (limits_of l out diagnostics) (stack B st) number at (closed.same l diagnostics locals references)));
+  without_room : (m : Mark) (ns : List ℕ) (why : Refusal) → FrameClosed (Err why) out out₁ frames captures captures' st place
+      → Walks (Err why) l B (buffers out₁ diagnostics locals frames captures' references) st (closed_with m ns place next)
+  without_room m ns why closed = record {
+    same = λ limits is. rw is (sym (then_refused m ns place next (limits_of l out diagnostics) (stack B st) (number_of why.reason) why.place (closed.same l diagnostics locals references)));
     fit = tt;
   }
 
@@ -74,39 +68,31 @@ module _ (out out₁ frames captures captures' : List ℕ) (st : AnalysisStack) 
 
 -- The answers
 
-module _ (out out₁ frames captures captures' : List ℕ) (st : AnalysisStack) (place next : ℕ) (c : Step) (closed : FrameClosed c out out₁ frames captures captures' st place) where
-  pub assertions_closed : (r : Walked) → r ≡ walked_to next c → AssertionsClosed r out out₁ frames captures captures' st place next
-  assertions_closed r ends = record {
-    walks = λ l diagnostics locals references f. assertions_walk out out₁ frames captures captures' st place next l diagnostics locals references f c r closed (placed next ends);
+module _ {out out₁ frames captures captures' : List ℕ} {st : AnalysisStack} {place : ℕ} (next : ℕ) {c : Step} (closed : FrameClosed c out out₁ frames captures captures' st place) where
+  pub assertions_closed : {r : Walked} → Placed r c next → AssertionsClosed r out out₁ frames captures captures' st place next
+  assertions_closed {r} ends = record {
+    walks = λ l diagnostics locals references f. assertions_walk out out₁ frames captures captures' st place next l diagnostics locals references f c r closed ends;
   }
 
-  module _ (number at : ℕ) (not : c ≡ Refused number at) where
-    pub array_refused : (n : ℕ) → ArrayClosed (WalkedAs.Refused number at) out out₁ frames captures captures' st place n next
-    unfolding closed_array closed_with
-    array_refused n = record {
-      walks = λ l diagnostics locals references f. without_room out out₁ frames captures captures' st place next l diagnostics locals references f AR (n ∷ []) number at (rw not at closed);
-    }
+  -- the shape has no room
+  pub full : {why : Refusal} (mark ns : List ℕ) → c ≡ Err why → ClosedWith (Err why) out out₁ frames captures captures' st place mark ns next
+  full {why} mark ns is = record {
+    walks = λ m spelled l diagnostics locals references f. without_room out out₁ frames captures captures' st place next l diagnostics locals references f m ns why (rw is at closed);
+  }
 
-    pub value_refused : ValueClosed (WalkedAs.Refused number at) out out₁ frames captures captures' st place next
-    unfolding closed_value closed_with
-    value_refused = record {
-      walks = λ l diagnostics locals references f. without_room out out₁ frames captures captures' st place next l diagnostics locals references f FV [] number at (rw not at closed);
-    }
+  -- the record after it, or no room for it
+  pub closed_on : {out' mark ns : List ℕ} {after : AnalysisStack} {e : Step} {r : Walked} → c ≡ Ok after → length out₁ ≡ length out → Emitted e out₁ out' after place mark ns → Placed r e next
+      → ClosedWith r out out' frames captures captures' st place mark ns next
+  closed_on {out'} {mark} {ns} {after} {e} {r} goes long emitted ends = record {
+    walks = λ m spelled l diagnostics locals references f.
+        with_record out out₁ frames captures captures' st place next l diagnostics locals references f m mark ns out' after e r long spelled (rw goes at closed) emitted ends;
+  }
 
-  module _ (out' : List ℕ) (after : AnalysisStack) (e : Step) (r : Walked) (goes : c ≡ Ok after) (long : length out₁ ≡ length out) (ends : r ≡ walked_to next e) where
-    pub array_closed : (n : ℕ) → Emitted e out₁ out' after place (0x41 ∷ 0x52 ∷ []) (n ∷ []) → ArrayClosed r out out' frames captures captures' st place n next
-    unfolding closed_array closed_with mark_bytes code
-    array_closed n emitted = record {
-      walks = λ l diagnostics locals references f.
-          with_record out out₁ frames captures captures' st place next l diagnostics locals references f AR (0x41 ∷ 0x52 ∷ []) (n ∷ []) out' after e r long refl (rw goes at closed) emitted (placed next ends);
-    }
+module _ {r : Walked} {out out' frames captures captures' : List ℕ} {st : AnalysisStack} {place next : ℕ} where
+  pub array_closed : {n : ℕ} → ClosedWith r out out' frames captures captures' st place (0x41 ∷ 0x52 ∷ []) (n ∷ []) next → ArrayClosed r out out' frames captures captures' st place n next
+  unfolding closed_array closed_with mark_bytes code
+  array_closed closed = record { walks = closed.walks AR refl }
 
-    pub value_closed : Emitted e out₁ out' after place (0x46 ∷ 0x56 ∷ []) [] → ValueClosed r out out' frames captures captures' st place next
-    unfolding closed_value closed_with mark_bytes code
-    value_closed emitted = record {
-      walks = λ l diagnostics locals references f.
-          with_record out out₁ frames captures captures' st place next l diagnostics locals references f FV (0x46 ∷ 0x56 ∷ []) [] out' after e r long refl (rw goes at closed) emitted (placed next ends);
-    }
-
--- what answers every need of the two functions that close with a record
-pub ruleset closing_needs = (rules, array_closed, array_refused, value_closed, value_refused)
+  pub value_closed : ClosedWith r out out' frames captures captures' st place (0x46 ∷ 0x56 ∷ []) [] next → ValueClosed r out out' frames captures captures' st place next
+  unfolding closed_value closed_with mark_bytes code
+  value_closed closed = record { walks = closed.walks FV refl }

@@ -24,13 +24,8 @@ use Rattle.value_depths.specs.declared.AnalysisResult.{AnalysisResult}
 use Rattle.table_locals.proofs.Laws.{length_locals}
 use Rattle.table_rows.specs.Entries.{number}
 use Rattle.state.specs.Seen.{Buffers, buffers, stack, limits_of, Fit}
-use Rattle.state.specs.Converting.{specs_to}
 use Rattle.state.specs.declared.AnalysisStack.{AnalysisStack}
 use Rattle.state.specs.declared.Limits.{Limits}
-use Rattle.state.specs.declared.Step.{Step}
-use Rattle.state.specs.declared.Step.TheVariants.{Ok, Refused}
-use Rattle.state.specs.declared.Specs.{Specs}
-use Rattle.state.specs.declared.Specs.TheVariants as specs_as
 use Rattle.state.proofs.Changing.{out_to, taint_to}
 use Rattle.state.proofs.Fitting.{fit_values, fit_back}
 use Rattle.step_write.specs.Answers.{Emitted}
@@ -43,6 +38,10 @@ use Rattle.resolver.proofs.Laws.{length_frames}
 use Rattle.step_spec.specs.Answers.{spec_mark, spec_numbers, kept_spec, OuterTainted, SpecDropped, SpecWritten, SpecKept, Counted, SpecRecorded, SpecClosed}
 use Rattle.step_spec.specs.declared.Spec.{Spec}
 use Rattle.step_spec.specs.declared.Spec.TheVariants.{Bind, Param}
+use Rattle.std.specs.Prelude.{Ok, Err}
+use Rattle.refusal.specs.declared.Refusal.{Refusal}
+use Rattle.refusal.specs.Meaning.{number_of}
+use Rattle.state.specs.Seen.{Step, Specs}
 
 -- What encloses the value, and the output taken back
 
@@ -127,13 +126,13 @@ module _ (locals locals₁ references references' frames : List ℕ) (limits : L
               (taints.fit limits (buffers out ds locals' frames cs references') (sets.fit limits out ds frames cs references' (k.fit out ds cs f)));
         }
 
-  pub spec_not_kept : (out : List ℕ) (slot : ℕ) (outer : AnalysisResult) (spec : Spec) (number at : ℕ) → noted ≡ Refused number at
-      → SpecKept (Refused number at) out out locals locals₁ references references' frames limits st place id slot outer spec
-  spec_not_kept out slot outer spec number at goes =
+  pub spec_not_kept : (out : List ℕ) (slot : ℕ) (outer : AnalysisResult) (spec : Spec) (why : Refusal) → noted ≡ Err why
+      → SpecKept (Err why) out out locals locals₁ references references' frames limits st place id slot outer spec
+  spec_not_kept out slot outer spec why goes =
       let k = rw goes at kept in
       record {
         same = λ ds cs.
-            sym (then_not (limits_of limits out ds) place id (stack (buffers out ds locals frames cs references) st) (result_of outer) (spec_mark spec) (spec_numbers spec slot) number at (k.same out ds cs));
+            sym (then_not (limits_of limits out ds) place id (stack (buffers out ds locals frames cs references) st) (result_of outer) (spec_mark spec) (spec_numbers spec slot) (number_of why.reason) why.place (k.same out ds cs));
         fit = λ ds cs f. tt;
       }
 
@@ -149,10 +148,13 @@ keepable f = record {
 
 -- An answer with the place after it and how many are kept
 
-pub counted : (step : Step) (next kept : ℕ) (r : Specs) → r ≡ specs_to next kept step → Counted r step next kept
-unfolding specs_to ◌>>=◌
-counted (Ok st) next kept r e = rw e (record { same = λ b. refl; fit = λ l b f. f; few = omega arith })
-counted (Refused number place) next kept r e = rw e (record { same = λ b. refl; fit = λ l b f. f; few = tt })
+pub counted : {step : Step} {st : AnalysisStack} {next kept : ℕ} → step ≡ Ok st → Counted (Ok (st, next, kept)) step next kept
+unfolding ◌>>=◌
+counted e = rw e (record { same = λ b. refl; fit = λ l b f. f; few = omega arith })
+
+pub not_counted : {step : Step} {why : Refusal} {next kept : ℕ} → step ≡ Err why → Counted (Err why) step next kept
+unfolding ◌>>=◌
+not_counted e = rw e (record { same = λ b. refl; fit = λ l b f. f; few = tt })
 
 -- The rules' step
 
@@ -219,7 +221,7 @@ module _ (out locals references frames : List ℕ) (limits : Limits) (st : Analy
     }
 
   pub recorded_dropped : k ≡ false → (tainted dropped : AnalysisStack) → OuterTainted tainted st outer → SpecDropped dropped tainted start
-      → SpecRecorded (specs_as.To dropped next kept) out out locals locals references references frames limits st place base kept start outer spec next
+      → SpecRecorded (Ok (dropped, next, kept)) out out locals locals references references frames limits st place base kept start outer spec next
   recorded_dropped is tainted dropped taints drops_it = record {
     walks = λ ds cs f.
         let b = buffers out ds locals frames cs references in
@@ -310,15 +312,15 @@ module _ (out out₁ frames captures captures' : List ℕ) (st : AnalysisStack) 
           few = ends.few;
         }
 
-    pub spec_stopped : (number at : ℕ) → c ≡ Refused number at
-        → SpecClosed (specs_as.Refused number at) out out₁ locals locals references references frames captures captures' limits st place base kept start outer spec next
-    spec_stopped number at goes =
+    pub spec_stopped : (why : Refusal) → c ≡ Err why
+        → SpecClosed (Err why) out out₁ locals locals references references frames captures captures' limits st place base kept start outer spec next
+    spec_stopped why goes =
         let k = rw goes at closed in
         record {
           walks = λ ds f. record {
             same = λ x e. rw e
                 (sym (then_stopped (limits_of limits out ds) place base kept start (result_of outer) (spec_mark spec) (spec_numbers spec) next
-                (stack (buffers out ds locals frames captures references) st) number at (k.same limits ds locals references)));
+                (stack (buffers out ds locals frames captures references) st) (number_of why.reason) why.place (k.same limits ds locals references)));
             fit = tt;
           };
           few = tt;

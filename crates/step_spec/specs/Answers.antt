@@ -14,11 +14,10 @@ use Rattle.state.specs.Seen.{Buffers, buffers, stack, seen, limits_of, Fit, Fits
 use Rattle.state.specs.Walks.{specs, SpecsFits, WalksSpecs, Becomes}
 use Rattle.state.specs.declared.AnalysisStack.{AnalysisStack}
 use Rattle.state.specs.declared.Limits.{Limits}
-use Rattle.state.specs.declared.Step.{Step}
-use Rattle.state.specs.declared.Specs.{Specs}
-use Rattle.state.specs.declared.Specs.TheVariants as specs_as
 use Rattle.step_spec.specs.declared.Spec.{Spec}
 use Rattle.step_spec.specs.declared.Spec.TheVariants.{Bind, Param}
+use Rattle.std.specs.Prelude.{Ok, Err}
+use Rattle.state.specs.Seen.{Step, Specs}
 
 -- the mark of a spec's record, and its numbers from its slot
 unfoldable pub spec_mark : Spec → Mark
@@ -64,8 +63,8 @@ pub record SpecKept (r : Step) (out out' locals locals' references references' f
 
 -- no more than so many are kept
 abbrev pub Few : Specs → ℕ → Type 0
-Few (specs_as.To st next kept) n = kept ≤ n
-Few (specs_as.Refused number place) n = Unit {0}
+Few (Ok (st, next, kept)) n = kept ≤ n
+Few (Err why) n = Unit {0}
 
 -- a step's answer, with the place after and how many are kept
 pub record Counted (r : Specs) (step : Step) (next kept : ℕ) : Type 0 where

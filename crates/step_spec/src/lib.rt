@@ -8,7 +8,7 @@ ghost use Rattle.table_rows.specs.Entries.{number};
 ghost use Rattle.step_retain.specs.Answers.{Keepable};
 ghost use Rattle.step_spec.specs.Answers.{OuterTainted, SpecDropped, SpecWritten, SpecKept, SpecRecorded, SpecClosed};
 
-use state::{AnalysisStack, Limits, Specs, Step, specs_to};
+use state::{AnalysisStack, Limits, Specs, Step};
 use step_frame::close_frame;
 use step_locals::first_in_frame;
 use step_retain::{is_kept, keep_spec_references, set_analysis};
@@ -17,7 +17,7 @@ use value_depths::AnalysisResult;
 use value_local::LocalId;
 
 // A bind, or a parameter with its name and whether it has a default.
-#[derive(Clone, Copy)]
+#[derive(Clone, Copy, Debug, PartialEq, Eq)]
 pub enum Spec {
     Bind,
     Param(u32, u32),
@@ -29,9 +29,7 @@ fn taint_outer(st: AnalysisStack, outer: AnalysisResult) -> AnalysisStack
 {
     let value = st.taint;
     let taint = outer.taint_by(value);
-    let mut after = st;
-    after.taint = taint;
-    after
+    AnalysisStack { taint, ..st }
 }
 
 // The output is taken back to where it began; what the spec noted passes to the next kept one of its frame, so it stays.
@@ -39,9 +37,7 @@ fn drop_spec(st: AnalysisStack, start: usize) -> AnalysisStack
     requires { start ≤ st.out }
     ensures { SpecDropped result st start }
 {
-    let mut after = st;
-    after.out = start;
-    after
+    AnalysisStack { out: start, ..st }
 }
 
 // `BV` and the slot, or `PA` with the name, the slot and the flag.
@@ -73,15 +69,10 @@ fn keep_spec(
     ensures { SpecKept result out.old out.new locals.old locals.new references.old references.new frames.now limits st
         at id.0 slot outer spec }
 {
-    let noted = keep_spec_references(locals, references, frames, limits, st, at, id);
-    match noted {
-        Step::Ok(after) => {
-            let analysed = set_analysis(locals, after, id);
-            let tainted = taint_outer(analysed, outer);
-            write_spec(out, tainted, at, spec, slot)
-        }
-        Step::Refused(why, place) => Step::Refused(why, place),
-    }
+    let after = keep_spec_references(locals, references, frames, limits, st, at, id)?;
+    let analysed = set_analysis(locals, after, id);
+    let tainted = taint_outer(analysed, outer);
+    write_spec(out, tainted, at, spec, slot)
 }
 
 // The id of a slot's local, which is one of the `locals` that there are, so that it fits.
@@ -119,11 +110,11 @@ pub fn record_spec_init(
         let id = id_of(first_in_frame(frames, st), slot, st.locals);
         let done = keep_spec(
             out, locals, references, frames, limits, st, at, id, slot, outer, spec,
-        );
-        return specs_to(done, next, kept + 1);
+        )?;
+        return Ok((done, next, kept + 1));
     }
     let tainted = taint_outer(st, outer);
-    Specs::To(drop_spec(tainted, start), next, kept)
+    Ok((drop_spec(tainted, start), next, kept))
 }
 
 // The value's frame closes, and the spec is kept or dropped.
@@ -148,12 +139,8 @@ pub fn close_spec(
     ensures { SpecClosed result out.old out.new locals.old locals.new references.old references.new frames.now
         captures.old captures.new limits st at base kept start outer spec next }
 {
-    let closed = close_frame(out, frames, captures, st, at);
-    match closed {
-        Step::Ok(after) => record_spec_init(
-            out, locals, references, frames, limits, after, at, base, kept, start, outer, spec,
-            next,
-        ),
-        Step::Refused(why, place) => Specs::Refused(why, place),
-    }
+    let after = close_frame(out, frames, captures, st, at)?;
+    record_spec_init(
+        out, locals, references, frames, limits, after, at, base, kept, start, outer, spec, next,
+    )
 }

@@ -5,7 +5,7 @@ use mathlib.Core.Path.{◌≡◌, sym, ap, ◌∙◌}
 use native.Mathlib.Nat.{one-mul, mod-eq_of_lt, div_self}
 use native.Mathlib.Decide.{ℕ_discrete}
 use native.Mathlib.Omega.{arith}
-use lib.ListN.{length, get_or, set, length-set}
+use lib.ListN.{length, get_or, set}
 use lib.Seq.{get_or-set_same, get_or-set_other}
 use lib.Pow.{pow_pos, pow-lt}
 use lib.Bits.{bit_or, or_shr, or_step, or_comm}
@@ -55,7 +55,6 @@ kept_flag met word name inside other e = by (ℕ_discrete (other / 64 % 16) word
 
 pub now_flagged : (met : List ℕ) (word name : ℕ) → length met ≡ 16 → word ≡ name / 64 % 16 → NowFlagged met (flagged met word name) name
 now_flagged met word name size is = record {
-  size = length-set met word _;
   own = rw is (own_flag met name size);
   kept = kept_flag met word name (omega (arith, size, is));
 }

@@ -83,17 +83,14 @@ module _ (s : List ℕ) (at : ℕ) where
 
   -- or it is not flagged, and they are
 
-  pub flagged_begin : {met : List ℕ} → length met ≡ 16 → Flagged s at 0 met
-  flagged_begin size = record { size = size; flags = λ k h. omega (arith, h) }
+  pub flagged_begin : {met : List ℕ} → Flagged s at 0 met
+  flagged_begin = record { flags = λ k h. omega (arith, h) }
 
-  pub unflagged_none : (n name : ℕ) {met : List ℕ} {flag : ℕ} → Flagged s at n met → flag ≡ flag_of met name → flag ≡ 0 → false ≡ is_among name (names_before s at n)
-  unflagged_none n name {met} {flag} set is unset = none_equal n λ k lt e.
-      let one : flag_of met name ≡ 1 = ap (λ (x : ℕ). flag_of met x) e ∙ set.flags k lt in
-      omega (arith, one, is, unset)
+  pub unflagged_none : (n name : ℕ) {met : List ℕ} → Flagged s at n met → (flag_of met name ≡ 1 → ⊥) → false ≡ is_among name (names_before s at n)
+  unflagged_none n name {met} set unset = none_equal n λ k lt e. unset (ap (λ (x : ℕ). flag_of met x) e ∙ set.flags k lt)
 
   pub flagged_next : {i name : ℕ} {met more : List ℕ} → Flagged s at i met → name ≡ number_at s (at + 26 * i + 6) → NowFlagged met more name → Flagged s at (i + 1) more
   flagged_next {i} {name} {met} {more} set is now = record {
-    size = now.size ∙ set.size;
     flags = every_next (λ k. flag_of more (number_at s (at + 26 * k + 6)) ≡ 1) i
         (λ k lt. now.kept _ (set.flags k lt))
         (ap (λ (x : ℕ). flag_of more x) (sym is) ∙ now.own);
@@ -102,51 +99,48 @@ module _ (s : List ℕ) (at : ℕ) where
   -- All names
 
   -- the heads that are left, and that the whole is static where they are beside the names before them
-  pub record Rest (levels n i p : ℕ) (hs : Heads) (q : ℕ) : Type 0 where
+  pub record Rest (levels n i : ℕ) (hs : Heads) (q : ℕ) : Type 0 where
     pub rest : Heads
-    pub read : heads_at s levels (n - i) p ≡ ok (rest, q)
+    pub read : heads_at s levels (n - i) (at + 26 * i) ≡ ok (rest, q)
     pub same : is_static [] hs ≡ is_static (names_before s at i) rest
 
-  pub record Static (n i p : ℕ) : Type 0 where
+  pub record Static (n i : ℕ) : Type 0 where
     pub turns : i ≤ n
-    pub place : p ≡ at + 26 * i
-    pub left : (levels : ℕ) (hs : Heads) (q : ℕ) → heads_at s levels n at ≡ ok (hs, q) → Rest levels n i p hs q
+    pub left : (levels : ℕ) (hs : Heads) (q : ℕ) → heads_at s levels n at ≡ ok (hs, q) → Rest levels n i hs q
 
-  pub static_begin : (n : ℕ) → Static n 0 at
+  pub static_begin : (n : ℕ) → Static n 0
   unfolding names_before
   static_begin n =
-      let e : n - 0 ≡ n = omega arith in
-      record { turns = omega arith; place = omega arith; left = λ levels hs q read. record { rest = hs; read = rw e read; same = refl } }
+      let all : n - 0 ≡ n = omega arith in
+      let here : at + 26 * 0 ≡ at = omega arith in
+      record { turns = omega arith; left = λ levels hs q read. record { rest = hs; read = rw (all, here) read; same = refl } }
 
-  module _ {n i p : ℕ} (S : Static n i p) where
+  module _ {n i : ℕ} (S : Static n i) where
     pub static_end : n ≤ i → IsStatic true s at n
     static_end le = record {
       same = λ levels hs q read.
           let r = S.left levels hs q read in
           let e : n - i ≡ 0 = omega arith in
-          sym (r.same ∙ no_head s levels p r.rest q (rw e at r.read) (names_before s at i));
+          sym (r.same ∙ no_head s levels (at + 26 * i) r.rest q (rw e at r.read) (names_before s at i));
     }
 
     module _ (lt : i < n) where
-      head_here : (levels : ℕ) (hs : Heads) (q : ℕ) (read : heads_at s levels n at ≡ ok (hs, q)) → FirstHead s levels (n - (i + 1)) p (S.left levels hs q read).rest q
+      head_here : (levels : ℕ) (hs : Heads) (q : ℕ) (read : heads_at s levels n at ≡ ok (hs, q)) → FirstHead s levels (n - (i + 1)) (at + 26 * i) (S.left levels hs q read).rest q
       head_here levels hs q read =
           let e : n - i ≡ suc (n - (i + 1)) = omega arith in
-          first_head s levels (n - (i + 1)) p (S.left levels hs q read).rest q (rw e at (S.left levels hs q read).read)
+          first_head s levels (n - (i + 1)) (at + 26 * i) (S.left levels hs q read).rest q (rw e at (S.left levels hs q read).read)
 
-      -- the head is whole, and so are those before it
-      pub head_fits : HeadsThere s n at → p + 26 ≤ length s
+      -- the head is whole
+      pub head_fits : HeadsThere s n at → at + 26 * i + 26 ≤ length s
       head_fits h = (head_here h.levels h.read.what.0 h.read.what.1 h.read.there).fits
 
-      pub heads_fit : HeadsThere s n at → at + 26 * i ≤ length s
-      heads_fit h = let f = head_fits h in let e = S.place in omega (arith, f, e)
-
-      pub static_computed : {kind : ℕ} → kind ≡ number_at s (p + 2) → (kind ≡ 0 → ⊥) → IsStatic false s at n
+      pub static_computed : {kind : ℕ} → kind ≡ number_at s (at + 26 * i + 2) → (kind ≡ 0 → ⊥) → IsStatic false s at n
       static_computed is nz = record {
         same = λ levels hs q read.
             sym ((S.left levels hs q read).same ∙ (head_here levels hs q read).stops (λ z. nz (is ∙ z)) (names_before s at i));
       }
 
-      module _ {kind name : ℕ} (kind_is : kind ≡ number_at s (p + 2)) (fixed : kind ≡ 0) (name_is : name ≡ number_at s (p + 6)) where
+      module _ {kind name : ℕ} (kind_is : kind ≡ number_at s (at + 26 * i + 2)) (fixed : kind ≡ 0) (name_is : name ≡ number_at s (at + 26 * i + 6)) where
         static_split : (levels : ℕ) (hs : Heads) (q : ℕ) (read : heads_at s levels n at ≡ ok (hs, q))
             → is_static [] hs
             ≡ choose (is_among name (names_before s at i)) (λ _. false) (λ _. is_static (name ∷ names_before s at i) (head_here levels hs q read).others)
@@ -163,23 +157,19 @@ module _ (s : List ℕ) (at : ℕ) where
               ∙ ap (λ (x : Bool). choose x (λ _. false) (λ _. is_static (name ∷ names_before s at i) (head_here levels hs q read).others)) (sym is ∙ e));
         }
 
-        pub name_there : name ≡ number_at s (at + 26 * i + 6)
-        name_there = name_is ∙ ap (λ (k : ℕ). number_at s (k + 6)) S.place
-
-        pub static_next : {b : Bool} → b ≡ is_among name (names_before s at i) → b ≡ false → Static n (i + 1) (p + 26)
+        pub static_next : {b : Bool} → b ≡ is_among name (names_before s at i) → b ≡ false → Static n (i + 1)
         unfolding choose names_before
         static_next is e =
             let one : i + 1 ≡ suc i = omega arith in
-            let there = S.place in
+            let behind : at + 26 * (i + 1) ≡ at + 26 * i + 26 = omega arith in
             record {
               turns = omega arith;
-              place = omega (arith, there);
               left = λ levels hs q read. record {
                 rest = (head_here levels hs q read).others;
-                read = (head_here levels hs q read).read (sym kind_is ∙ fixed);
+                read = rw behind ((head_here levels hs q read).read (sym kind_is ∙ fixed));
                 same = static_split levels hs q read
                     ∙ ap (λ (x : Bool). choose x (λ _. false) (λ _. is_static (name ∷ names_before s at i) (head_here levels hs q read).others)) (sym is ∙ e)
-                    ∙ ap (λ (x : ℕ). is_static (x ∷ names_before s at i) (head_here levels hs q read).others) name_there
+                    ∙ ap (λ (x : ℕ). is_static (x ∷ names_before s at i) (head_here levels hs q read).others) name_is
                     ∙ ap (λ (k : ℕ). is_static (names_before s at k) (head_here levels hs q read).others) (sym one);
               };
             }

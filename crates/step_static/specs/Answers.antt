@@ -1,5 +1,5 @@
 -- What the questions about an object's heads ask for and answer. Assumes nothing.
-use Rattle.std.specs.Prelude.{ℕ, zero, suc, ◌+◌, ◌*◌, ◌/◌, ◌%◌, ◌^◌, ◌<◌, ◌≤◌, Bool, List, [], ◌∷◌, ◌≡◌, length, get_or}
+use Rattle.std.specs.Prelude.{ℕ, zero, suc, ◌+◌, ◌*◌, ◌/◌, ◌%◌, ◌^◌, ◌<◌, ◌≤◌, Bool, List, [], ◌∷◌, ◌≡◌, get_or}
 use Rattle.rules.specs.Outcome.{ok}
 use Rattle.rules.specs.Numbers.{Name, number_at}
 use Rattle.rules.specs.Tree.{Heads}
@@ -26,12 +26,10 @@ flag_of met name = get_or met (name / 64 % 16) 0 / 2 ^ (name % 64) % 2
 
 -- each of these names is flagged
 pub record Flagged (s : List ℕ) (at n : ℕ) (met : List ℕ) : Type 0 where
-  pub size : length met ≡ 16
   pub flags : (k : ℕ) → k < n → flag_of met (number_at s (at + 26 * k + 6)) ≡ 1
 
 -- this name is flagged too
 pub record NowFlagged (before after : List ℕ) (name : Name) : Type 0 where
-  pub size : length after ≡ length before
   pub own : flag_of after name ≡ 1
   pub kept : (other : Name) → flag_of before other ≡ 1 → flag_of after other ≡ 1
 

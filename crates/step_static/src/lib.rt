@@ -2,7 +2,7 @@
 
 #![tactic(auto)]
 
-ghost use Rattle.std.specs.Prelude.{◌≡◌, ◌+◌, ◌*◌, ◌/◌, ◌%◌, ◌≤◌, ◌<◌, length};
+ghost use Rattle.std.specs.Prelude.{◌≡◌, ◌↔◌, IsTrue, ◌+◌, ◌*◌, ◌/◌, ◌%◌, ◌≤◌, ◌<◌, length};
 ghost use Rattle.rules.specs.Walk.{is_among};
 ghost use Rattle.step_static.specs.Answers.{HeadsThere, IsStatic, names_before, NoneAbove, flag_of, Flagged, NowFlagged};
 
@@ -17,20 +17,17 @@ fn word_of(name: u32) -> usize
     (name / 64 % 16) as usize
 }
 
-// 1 where this name was flagged or another of its residue, else 0.
-fn flag_of(met: &[u64], name: u32) -> u64
-    requires { length met.now ≡ 16 }
-    ensures { result ≡ flag_of met.now name }
+// Whether this name was flagged or another of its residue.
+fn is_flagged(met: &[u64; 16], name: u32) -> bool
+    ensures { IsTrue result ↔ (flag_of met.now name ≡ 1) }
 {
-    (met[word_of(name)] >> (name % 64)) % 2
+    (met[word_of(name)] >> (name % 64)) % 2 == 1
 }
 
-fn flag(met: &mut [u64], name: u32)
-    requires { length met.old ≡ 16 }
+fn flag(met: &mut [u64; 16], name: u32)
     ensures { NowFlagged met.old met.new name }
 {
-    let word = word_of(name);
-    met[word] = met[word] | (1u64 << (name % 64));
+    met[word_of(name)] |= 1 << (name % 64);
 }
 
 // Whether the fixed name is that of one of the first n heads, which have fixed names too.
@@ -38,10 +35,8 @@ fn is_repeated(tree: &[u8], at: usize, n: usize, name: u32) -> bool
     requires { at + 26 * n ≤ length tree.now }
     ensures { result ≡ is_among name (names_before tree.now at n) }
 {
-    let mut left = n;
-    while 0 < left {
-        left -= 1;
-        if number_at(tree, at + offsets::FH_SIZE * left + offsets::FH_NAME) == name {
+    for i in (0..n).rev() {
+        if number_at(tree, at + offsets::FH_SIZE * i + offsets::FH_NAME) == name {
             return true;
         }
     }
@@ -49,23 +44,11 @@ fn is_repeated(tree: &[u8], at: usize, n: usize, name: u32) -> bool
 }
 
 // The same where no name of the first n is above `highest` and each is flagged: a name that is above, or not flagged, needs no search.
-fn is_met(tree: &[u8], at: usize, n: usize, name: u32, highest: u32, met: &[u64]) -> bool
+fn is_met(tree: &[u8], at: usize, n: usize, name: u32, highest: u32, met: &[u64; 16]) -> bool
     requires { (at + 26 * n ≤ length tree.now) × (NoneAbove tree.now at n highest) × (Flagged tree.now at n met.now) }
     ensures { result ≡ is_among name (names_before tree.now at n) }
 {
-    if highest < name {
-        return false;
-    }
-    if flag_of(met, name) == 0 {
-        return false;
-    }
-    is_repeated(tree, at, n, name)
-}
-
-fn higher(a: u32, b: u32) -> u32
-    ensures { (a ≤ result) × (b ≤ result) }
-{
-    if a < b { b } else { a }
+    name <= highest && is_flagged(met, name) && is_repeated(tree, at, n, name)
 }
 
 // Whether no head of n is computed and their names all differ.
@@ -73,22 +56,19 @@ pub fn is_static(tree: &[u8], at: usize, n: u32) -> bool
     requires { HeadsThere tree.now n at }
     ensures { IsStatic result tree.now at n }
 {
-    let mut p = at;
     let mut highest: u32 = 0;
     let mut met = [0u64; 16];
-    let mut i: u32 = 0;
-    while i < n {
+    for i in 0..n as usize {
+        let p = at + offsets::FH_SIZE * i;
         if number_at(tree, p + offsets::FH_KIND) != 0 {
             return false;
         }
         let name = number_at(tree, p + offsets::FH_NAME);
-        if is_met(tree, at, i as usize, name, highest, &met) {
+        if is_met(tree, at, i, name, highest, &met) {
             return false;
         }
-        highest = higher(highest, name);
+        highest = highest.max(name);
         flag(&mut met, name);
-        p += 26;
-        i += 1;
     }
     true
 }

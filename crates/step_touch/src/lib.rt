@@ -11,7 +11,7 @@ ghost use Rattle.step_touch.specs.Answers.{TouchedLocal, TouchedObject, tainted_
 use state::AnalysisStack;
 use table_locals::{local_at, put_use};
 use value_depths::AnalysisResult;
-use value_local::{LocalDefinition, LocalId, note_reference, use_at};
+use value_local::{LocalDefinition, LocalId};
 
 // What the present value depends on once it uses a local.
 fn taint_by_local(taint: AnalysisResult, l: LocalDefinition) -> AnalysisResult
@@ -31,13 +31,11 @@ pub fn touch_local(locals: &mut [u32], st: AnalysisStack, depth: u32, id: LocalI
     ensures { TouchedLocal result locals.old locals.new st depth id.0 }
 {
     let l = local_at(locals, id);
-    let used = use_at(l, depth);
-    put_use(locals, id, note_reference(used));
+    let used = l.use_at(depth);
+    put_use(locals, id, used.note_reference());
     let before = st.taint;
     let taint = taint_by_local(before, l);
-    let mut after = st;
-    after.taint = taint;
-    after
+    AnalysisStack { taint, ..st }
 }
 
 // A use of an object's `this`.
@@ -50,9 +48,7 @@ pub fn touch_object(locals: &[u32], st: AnalysisStack, id: LocalId) -> AnalysisS
     let before = st.taint;
     let depends = before.depend_on_local(depth);
     let taint = depends.depend_on_object(depth);
-    let mut after = st;
-    after.taint = taint;
-    after
+    AnalysisStack { taint, ..st }
 }
 
 // Whether the local could be defined further out.

@@ -10,8 +10,8 @@ use Rattle.state.specs.Seen.{buffers, stack, Fit}
 use Rattle.state.specs.Walks.{Steps}
 use Rattle.state.specs.declared.AnalysisStack.{AnalysisStack}
 use Rattle.state.specs.declared.Limits.{Limits}
-use Rattle.state.specs.declared.Step.{Step}
 use Rattle.step_write.specs.Answers.{Emitted}
+use Rattle.state.specs.Seen.{Step}
 
 module _ {r : Step} {out out' : List ℕ} {st : AnalysisStack} {place : ℕ} {mark ns : List ℕ} where
   pub emitted_steps : Emitted r out out' st place mark ns → (m : Mark) → get_or mark 0 0 ∷ get_or mark 1 0 ∷ [] ≡ mark_bytes m

@@ -15,49 +15,51 @@ use Rattle.rules.specs.Records.{Span, span_numbers}
 use Rattle.rules.specs.State as rules_state
 use Rattle.rules.specs.Writing as rules_writing
 use Rattle.bytes_write.specs.Put.{put, Put}
-use Rattle.bytes_write.specs.declared.Written.{Written}
-use Rattle.bytes_write.specs.declared.Written.TheVariants.{To, NoRoom}
+use Rattle.std.specs.Prelude.{Option, Some, None}
 use Rattle.state.specs.Seen.{buffers, stack, seen, limits_of, span_of}
 use Rattle.state.specs.declared.AnalysisStack.{AnalysisStack}
 use Rattle.state.specs.declared.Limits.{Limits}
-use Rattle.state.specs.declared.Step.{Step}
-use Rattle.state.specs.declared.Step.TheVariants.{Ok, Refused}
 use Rattle.step_write.specs.Answers.{level_of, Behind, Emitted, Reported, BadPlace}
 use Rattle.state.proofs.Changing.{out_to, diagnostics_to}
 use Rattle.state.proofs.Fitting.{fit_beside}
 use Rattle.step_write.specs.declared.Level.{Level}
-use Rattle.step_write.specs.declared.Level.TheVariants.{Error, Warning}
+use Rattle.step_write.specs.declared.Level.TheVariants.{Error}
+use Rattle.std.specs.Prelude.{Ok, Err}
+use Rattle.refusal.specs.declared.Refusal.{Refusal}
+use Rattle.refusal.specs.Meaning.{refuses, number_of}
+use Rattle.refusal.specs.declared.Reason.TheVariants as reason
+use Rattle.state.specs.Seen.{Step}
 
 -- Bytes after those that were used
 
 -- a record that was put stands after them
-pub put_behind : (r : Written) (before after : List ℕ) (used : ℕ) (bytes : List ℕ) → Put r before after used bytes → Behind r before after used bytes
+pub put_behind : (r : Option ℕ) (before after : List ℕ) (used : ℕ) (bytes : List ℕ) → Put r before after used bytes → Behind r before after used bytes
 unfolding put
-put_behind (To next) before after used bytes p =
+put_behind (Some next) before after used bytes p =
     let within : used ≤ length before = omega (arith, p.0, p.1) in
     let long : length (take used before ++ bytes) ≡ next = length-append (take used before) bytes ∙ omega (arith, length-take-le used before within, p.0) in
     (p.0, p.1, ap (take next) p.2 ∙ take_at (take used before ++ bytes) (drop (used + length bytes) before) next long)
-put_behind NoRoom before after used bytes p = p.0
+put_behind None before after used bytes p = p.0
 
 -- what stands after the bytes that stand after those that were used
-pub behind_more : (r : Written) (before middle after : List ℕ) (used next : ℕ) (bytes more : List ℕ) → length middle ≡ length before
-    → Behind (To next) before middle used bytes → Behind r middle after next more → Behind r before after used (bytes ++ more)
-behind_more (To end) before middle after used next bytes more long p q = (
+pub behind_more : (r : Option ℕ) (before middle after : List ℕ) (used next : ℕ) (bytes more : List ℕ) → length middle ≡ length before
+    → Behind (Some next) before middle used bytes → Behind r middle after next more → Behind r before after used (bytes ++ more)
+behind_more (Some end) before middle after used next bytes more long p q = (
   omega (arith, p.0, q.0, length-append bytes more),
   omega (arith, q.1),
   q.2 ∙ ap (λ bs. bs ++ more) p.2 ∙ append_assoc (take used before) bytes more,
 )
-behind_more NoRoom before middle after used next bytes more long p q = omega (arith, p.0, q, length-append bytes more)
+behind_more None before middle after used next bytes more long p q = omega (arith, p.0, q, length-append bytes more)
 
 module _ (before after : List ℕ) (used : ℕ) (bytes : List ℕ) where
   -- where they stand there was room
-  pub room : (next : ℕ) → Behind (To next) before after used bytes → leb (length (take used before ++ bytes)) (length before) ≡ true
+  pub room : (next : ℕ) → Behind (Some next) before after used bytes → leb (length (take used before ++ bytes)) (length before) ≡ true
   room next p =
       le-leb (length (take used before ++ bytes)) (length before)
       (omega (arith, length-append (take used before) bytes, length-take-le used before (omega (arith, p.0, p.1)), p.0, p.1))
 
   -- and where they had none, there was none; nor is there any where more is used than there is
-  pub no_room : 0 < length bytes → Behind NoRoom before after used bytes → leb (length (take used before ++ bytes)) (length before) ≡ false
+  pub no_room : 0 < length bytes → Behind None before after used bytes → leb (length (take used before ++ bytes)) (length before) ≡ false
   no_room some p =
       lt-leb (length (take used before ++ bytes)) (length before) (by (dec_lt (length before) used))
     where
@@ -83,7 +85,7 @@ some_bytes m ns bytes e = omega (arith, ap length e)
 
 module _ (before after : List ℕ) (st : AnalysisStack) (place : ℕ) (bytes ns : List ℕ) (m : Mark) (spelt : bytes ≡ record_bytes m ns)
     (l : Limits) (diagnostics locals frames captures references : List ℕ) where
-  pub emit_wrote : (next : ℕ) → Behind (To next) before after st.out bytes
+  pub emit_wrote : (next : ℕ) → Behind (Some next) before after st.out bytes
       → seen (Ok (out_to next st)) (buffers after diagnostics locals frames captures references)
       ≡ rules_writing.emit (limits_of l before diagnostics) place m ns (stack (buffers before diagnostics locals frames captures references) st)
   unfolding rules_writing.emit limits_of stack rules_state.with_out rules_state.with_sink
@@ -93,7 +95,7 @@ module _ (before after : List ℕ) (st : AnalysisStack) (place : ℕ) (bytes ns 
       (λ _. ok (rules_state.with_out (take st.out before ++ bytes) (stack (buffers before diagnostics locals frames captures references) st)))
       (room before after st.out bytes next p)))
 
-  pub emit_full : Behind NoRoom before after st.out bytes
+  pub emit_full : Behind None before after st.out bytes
       → refuse 9 place ≡ rules_writing.emit (limits_of l before diagnostics) place m ns (stack (buffers before diagnostics locals frames captures references) st)
   unfolding rules_writing.emit limits_of stack
   emit_full p =
@@ -110,40 +112,23 @@ module _ (before after : List ℕ) (st : AnalysisStack) (place : ℕ) (mark ns :
   unfolding record_bytes
   spells m e = ap (λ bs. bs ++ numbers_bytes ns) e
 
-  pub emitted_to : (next : ℕ) → length after ≡ length before → Put (To next) before after st.out bytes
+  pub emitted_to : (next : ℕ) → length after ≡ length before → Put (Some next) before after st.out bytes
       → Emitted (Ok (out_to next st)) before after st place mark ns
   emitted_to next long p = record {
     same = λ m e l ds ls fs cs rs.
-        emit_wrote before after st place bytes ns m (spells m e) l ds ls fs cs rs next (put_behind (To next) before after st.out bytes p);
+        emit_wrote before after st place bytes ns m (spells m e) l ds ls fs cs rs next (put_behind (Some next) before after st.out bytes p);
     fit = λ l ds ls fs cs rs fit.
         fit_beside fit (omega (arith, p.1)) fit.diagnostics_long;
   }
 
-  pub emitted_nothing : Put NoRoom before after st.out bytes → Emitted (Refused 9 place) before after st place mark ns
+  pub emitted_nothing : Put None before after st.out bytes → Emitted (Err (refuses reason.OutputFull place)) before after st place mark ns
   emitted_nothing p = record {
     same = λ m e l ds ls fs cs rs.
-        emit_full before after st place bytes ns m (spells m e) l ds ls fs cs rs (put_behind NoRoom before after st.out bytes p);
+        emit_full before after st place bytes ns m (spells m e) l ds ls fs cs rs (put_behind None before after st.out bytes p);
     fit = λ l ds ls fs cs rs h. tt;
   }
 
 -- A diagnostic
-
-or_true : (b : Bool) → b || true ≡ true
-or_true true = refl
-or_true false = refl
-
-or_false : (b : Bool) → b || false ≡ b
-or_false true = refl
-or_false false = refl
-
--- the state has met an error if it had, or if this is one
-pub errs : (level : Level) (b : Bool) → level ≡ Error → b || rules_writing.is_error (level_of level) ≡ true
-unfolding level_of rules_writing.is_error
-errs level b e = rw e (or_true b)
-
-pub warns : (level : Level) (b : Bool) → level ≡ Warning → b || rules_writing.is_error (level_of level) ≡ b
-unfolding level_of rules_writing.is_error
-warns level b e = rw e (or_false b)
 
 module _ (before after : List ℕ) (st : AnalysisStack) (place : ℕ) (level : Level) (number code name span : ℕ)
     (numbered : number ≡ rules_writing.level_number (level_of level)) where
@@ -173,7 +158,7 @@ module _ (before after : List ℕ) (st : AnalysisStack) (place : ℕ) (level : L
     unfolding rules_writing.report limits_of stack record_bytes mark_bytes code span_numbers made
     report_is = rw (← numbered) refl
 
-    report_wrote : (next : ℕ) (errored : Bool) → Behind (To next) before after st.diagnostics diagnostic
+    report_wrote : (next : ℕ) (errored : Bool) → Behind (Some next) before after st.diagnostics diagnostic
         → st.errored || rules_writing.is_error (level_of level) ≡ errored
         → seen (Ok (diagnostics_to next errored st)) (buffers out after locals frames captures references) ≡ reported
     unfolding stack rules_state.with_sink made
@@ -181,23 +166,23 @@ module _ (before after : List ℕ) (st : AnalysisStack) (place : ℕ) (level : L
         rw (p.2, ← e)
         (sym (report_is ∙ passes (leb (length whole) (length before)) 10 place (λ _. ok made) (room before after st.diagnostics diagnostic next p)))
 
-    report_full : Behind NoRoom before after st.diagnostics diagnostic → refuse 10 place ≡ reported
+    report_full : Behind None before after st.diagnostics diagnostic → refuse 10 place ≡ reported
     report_full p =
         sym (report_is
         ∙ fails (leb (length whole) (length before)) 10 place (λ _. ok made) (no_room before after st.diagnostics diagnostic (omega arith) p))
 
-  pub reported_to : (next : ℕ) (errored : Bool) → length after ≡ length before → Put (To next) before after st.diagnostics diagnostic
+  pub reported_to : (next : ℕ) (errored : Bool) → length after ≡ length before → Put (Some next) before after st.diagnostics diagnostic
       → st.errored || rules_writing.is_error (level_of level) ≡ errored
       → Reported (Ok (diagnostics_to next errored st)) before after st place level code name span
   reported_to next errored long p e = record {
     same = λ l out ls fs cs rs.
-        report_wrote l out ls fs cs rs next errored (put_behind (To next) before after st.diagnostics diagnostic p) e;
+        report_wrote l out ls fs cs rs next errored (put_behind (Some next) before after st.diagnostics diagnostic p) e;
     fit = λ l out ls fs cs rs fit. fit_beside fit fit.out_long (omega (arith, p.1));
   }
 
-  pub reported_nothing : Put NoRoom before after st.diagnostics diagnostic → Reported (Refused 10 place) before after st place level code name span
+  pub reported_nothing : Put None before after st.diagnostics diagnostic → Reported (Err (refuses reason.DiagnosticsFull place)) before after st place level code name span
   reported_nothing p = record {
-    same = λ l out ls fs cs rs. report_full l out ls fs cs rs (put_behind NoRoom before after st.diagnostics diagnostic p);
+    same = λ l out ls fs cs rs. report_full l out ls fs cs rs (put_behind None before after st.diagnostics diagnostic p);
     fit = λ l out ls fs cs rs h. tt;
   }
 
@@ -234,12 +219,12 @@ module _ (out diagnostics diagnostics' : List ℕ) (st : AnalysisStack) (place c
     fit = λ l ls fs cs rs h. emitted.fit l diagnostics' ls fs cs rs (reported.fit l out ls fs cs rs h);
   }
 
-  pub bad_refused : (number at : ℕ) → Reported (Refused number at) diagnostics diagnostics' st place Error code name span
-      → BadPlace (Refused number at) out out diagnostics diagnostics' st place code name span bad
+  pub bad_refused : (why : Refusal) → Reported (Err why) diagnostics diagnostics' st place Error code name span
+      → BadPlace (Err why) out out diagnostics diagnostics' st place code name span bad
   unfolding level_of
-  bad_refused number at reported = record {
+  bad_refused why reported = record {
     same = λ l ls fs cs rs.
-        sym (then_refused (limits_of l out diagnostics) place code name (span_of span) bad (stack (buffers out diagnostics ls fs cs rs) st) number at
+        sym (then_refused (limits_of l out diagnostics) place code name (span_of span) bad (stack (buffers out diagnostics ls fs cs rs) st) (number_of why.reason) why.place
         (reported.same l out ls fs cs rs));
     fit = λ l ls fs cs rs h. tt;
   }

@@ -1,25 +1,23 @@
 -- What each step answers and leaves: the rules' step on the state that the buffers hold, whatever stands in those that it doesn't touch.
 -- Assumes nothing.
-use Rattle.std.specs.Prelude.{ℕ, ◌+◌, ◌≤◌, ◌<◌, List, [], ◌∷◌, ◌++◌, ◌≡◌, length, get_or, take}
+use Rattle.std.specs.Prelude.{ℕ, ◌+◌, ◌≤◌, ◌<◌, List, [], ◌∷◌, ◌++◌, ◌≡◌, length, get_or, take, Option, Some, None}
 use Rattle.rules.specs.Numbers.{Mark, mark_bytes}
 use Rattle.rules.specs.Writing as rules
-use Rattle.bytes_write.specs.declared.Written.{Written}
-use Rattle.bytes_write.specs.declared.Written.TheVariants.{To, NoRoom}
 use Rattle.state.specs.Seen.{span_of, buffers, stack, seen, limits_of, Fit, Fits}
 use Rattle.state.specs.declared.AnalysisStack.{AnalysisStack}
 use Rattle.state.specs.declared.Limits.{Limits}
-use Rattle.state.specs.declared.Step.{Step}
 use Rattle.step_write.specs.declared.Level.{Level}
 use Rattle.step_write.specs.declared.Level.TheVariants.{Error, Warning}
+use Rattle.state.specs.Seen.{Step}
 
 unfoldable pub level_of : Level → rules.Level
 level_of Error = rules.error
 level_of Warning = rules.warning
 
 -- these bytes stand after those that were used, or had no room; what lies past them may be anything
-abbrev pub Behind : Written → (before after : List ℕ) → (used : ℕ) → (bytes : List ℕ) → Type 0
-Behind (To next) before after used bytes = (next ≡ used + length bytes) × (next ≤ length before) × (take next after ≡ take used before ++ bytes)
-Behind NoRoom before after used bytes = length before < used + length bytes
+abbrev pub Behind : Option ℕ → (before after : List ℕ) → (used : ℕ) → (bytes : List ℕ) → Type 0
+Behind (Some next) before after used bytes = (next ≡ used + length bytes) × (next ≤ length before) × (take next after ≡ take used before ++ bytes)
+Behind None before after used bytes = length before < used + length bytes
 
 -- a record of the output
 pub record Emitted (r : Step) (before after : List ℕ) (st : AnalysisStack) (place : ℕ) (mark ns : List ℕ) : Type 0 where

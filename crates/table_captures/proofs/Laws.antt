@@ -22,16 +22,6 @@ use Rattle.table_captures.specs.declared.Capture.{Capture}
 
 -- slots as numbers
 
-pub slot_of_local : (kind own : ℕ) → kind ≡ 0 → slot_of kind own ≡ rules.local_slot own
-unfolding slot_of
-slot_of_local zero own e = refl
-slot_of_local (suc kind) own e = absurd (omega arith)
-
-pub slot_of_capture : (kind own : ℕ) → (kind ≡ 0 → ⊥) → slot_of kind own ≡ rules.capture_slot own
-unfolding slot_of
-slot_of_capture zero own ne = absurd (ne refl)
-slot_of_capture (suc kind) own ne = refl
-
 slot_of_number : (kind own : ℕ) → slot_number (slot_of kind own) ≡ own
 unfolding slot_of slot_number
 slot_of_number zero own = refl
@@ -55,12 +45,12 @@ log_at_is n i t h = entries_at logged_of_row n i t (taking 0 0 (rules.local_slot
 pub source_small : (t : List ℕ) (i : ℕ) → SmallSource t i → number t i 3 ≤ 65535
 source_small t i small = omega (arith, small, ap (λ (e : Logged). slot_number e.capture.source) (logged_read t i), slot_of_number (number t i 2) (number t i 3))
 
-pub capture_stored : (t u : List ℕ) (i kind own : ℕ) (c : Capture) → Stored t u i c.owner c.target.0 kind own → kind ≡ slot_kind (slot c.source)
+pub capture_stored : (t u : List ℕ) (i kind own : ℕ) (c : Capture) → Stored t u i (c.owner ∷ c.target.0 ∷ kind ∷ own ∷ []) → kind ≡ slot_kind (slot c.source)
     → own ≡ slot_number (slot c.source) → PutCapture t u i (logged c)
 unfolding log_of logged logged_at
 capture_stored t u i kind own c stored kind_is own_is =
     put_stored logged_of_row log_of (λ n t. refl) i t u stored.others (logged c) stored.long
-    (logged_read u i ∙ rw (stored.n0, stored.n1, stored.n2, stored.n3, kind_is, own_is, slot_back (slot c.source)))
+    (logged_read u i ∙ rw (stored.here 0 (omega arith), stored.here 1 (omega arith), stored.here 2 (omega arith), stored.here 3 (omega arith), kind_is, own_is, slot_back (slot c.source)))
 
 module _ (t u : List ℕ) (i : ℕ) (e : Logged) (put : PutCapture t u i e) where
   pub logged_here : logged_at u i ≡ e

@@ -19,27 +19,28 @@ const SOURCE_KIND: usize = 2;
 
 const SOURCE_NUMBER: usize = 3;
 
-#[derive(Clone, Copy)]
+#[derive(Clone, Copy, Debug, PartialEq, Eq)]
 pub struct LocalSlot(pub u16);
 
-#[derive(Clone, Copy)]
+#[derive(Clone, Copy, Debug, PartialEq, Eq)]
 pub struct CaptureSlot(pub u16);
 
-#[derive(Clone, Copy)]
+#[derive(Clone, Copy, Debug, PartialEq, Eq)]
 pub enum LSlot {
     Local(LocalSlot),
     Capture(CaptureSlot),
 }
 
 // An entry of the log: the frame that captured, by its position, what it captured, and where the frame beneath has it.
-#[derive(Clone, Copy)]
+#[derive(Clone, Copy, Debug, PartialEq, Eq)]
 pub struct Capture {
     pub owner: u32,
     pub target: LocalId,
     pub source: LSlot,
 }
 
-// 0 for a local, 1 for a capture.
+// 0 for a local, 1 for a capture: the numbers that an entry of the log and the output have.
+#[tactic(auto, unfolding(crate::specs::Meaning::slot, crate::specs::Meaning::slot_kind))]
 pub fn slot_kind(s: LSlot) -> u32
     ensures { result ≡ slot_kind (slot s) }
 {
@@ -49,23 +50,19 @@ pub fn slot_kind(s: LSlot) -> u32
     }
 }
 
-fn wide(x: u16) -> u32
-    ensures { (result ≡ x) × (result ≤ 65535) }
-{
-    x as u32
-}
-
 // A slot's own number.
+#[tactic(auto, unfolding(crate::specs::Meaning::slot, rules::specs::Writing::slot_number))]
 pub fn slot_number(s: LSlot) -> u32
     ensures { (result ≡ slot_number (slot s)) × (result ≤ 65535) }
 {
     match s {
-        LSlot::Local(l) => wide(l.0),
-        LSlot::Capture(c) => wide(c.0),
+        LSlot::Local(l) => u32::from(l.0),
+        LSlot::Capture(c) => u32::from(c.0),
     }
 }
 
 // The slot of a kind and a number.
+#[tactic(auto, unfolding(crate::specs::Meaning::slot, crate::specs::Meaning::slot_of))]
 fn slot_of(kind: u32, own: u32) -> LSlot
     requires { own ≤ 65535 }
     ensures { slot result ≡ slot_of kind own }
@@ -79,6 +76,7 @@ fn slot_of(kind: u32, own: u32) -> LSlot
 }
 
 // The frame that captured. A search looks at one number of an entry, so that this and the next read no other.
+#[tactic(auto, using(crate::proofs::Laws::logged_read))]
 pub fn owner_at(captures: &[u32], i: u32) -> u32
     requires { 16 * i + 16 ≤ length captures.now }
     ensures { result ≡ (logged_at captures.now i).owner }
@@ -87,6 +85,7 @@ pub fn owner_at(captures: &[u32], i: u32) -> u32
 }
 
 // What was captured.
+#[tactic(auto, using(crate::proofs::Laws::logged_read))]
 pub fn target_at(captures: &[u32], i: u32) -> LocalId
     requires { 16 * i + 16 ≤ length captures.now }
     ensures { result.0 ≡ (logged_at captures.now i).capture.target }
@@ -115,13 +114,14 @@ pub fn put_capture(captures: &mut [u32], i: u32, c: Capture)
     ensures at { PutCapture captures.old captures.new i (logged c) }
     ensures small { slot_number (slot c.source) ≤ 65535 }
 {
-    let source = c.source;
     put_entry(
         captures,
         i,
-        c.owner,
-        c.target.0,
-        slot_kind(source),
-        slot_number(source),
+        [
+            c.owner,
+            c.target.0,
+            slot_kind(c.source),
+            slot_number(c.source),
+        ],
     );
 }

@@ -17,7 +17,7 @@ const N_LOCALS: usize = 2;
 
 const CAPTURES_FROM: usize = 3;
 
-#[derive(Clone, Copy)]
+#[derive(Clone, Copy, Debug, PartialEq, Eq)]
 pub struct Frame {
     pub is_defining: bool,
     pub first_local: u32,
@@ -39,18 +39,20 @@ pub fn frame_at(frames: &[u32], i: u32) -> Frame
 }
 
 // A frame becomes the entry i.
+#[tactic(auto, using(table_rows::proofs::Storing::number_same))]
 pub fn put_frame(frames: &mut [u32], i: u32, f: Frame)
     requires { 16 * i + 4 ≤ length frames.old }
     ensures at { FrameAt frames.new i f }
     ensures others { (k j : ℕ) → (k ≡ i → ⊥) → j < 16 → number frames.new k j ≡ number frames.old k j }
 {
-    let is_defining = if f.is_defining { 1 } else { 0 };
     put_entry(
         frames,
         i,
-        is_defining,
-        f.first_local,
-        f.n_locals,
-        f.captures_from,
+        [
+            f.is_defining as u32,
+            f.first_local,
+            f.n_locals,
+            f.captures_from,
+        ],
     );
 }

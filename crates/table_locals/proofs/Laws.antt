@@ -5,18 +5,23 @@ use mathlib.Core.List.{List, [], ◌∷◌, ◌++◌}
 use mathlib.Core.Path.{◌≡◌, refl, sym, ap, ◌∙◌}
 use native.Mathlib.Omega.{arith}
 use lib.Dec.{eqb}
+use Rattle.std.specs.Prelude.{Option, Some, None, is_some, unwrap_or}
+use Rattle.std.specs.Bool.{then_some}
 use lib.ListN.{length, set, take, drop, length-set}
-use lib.Seq.{sets, sets-eq, length-sets}
+use lib.Seq.{drop_at, length-take-le}
+use borrow.Rule.Slice.PartMut.{put_mid}
 use borrow.Author.Tests.{ne_eqb}
 use Rattle.rules.specs.Outcome.{choose}
 use Rattle.rules.specs.Numbers.{bit, is_set}
 use Rattle.rules.specs.Locals as rules
 use Rattle.rules.specs.Locals.{local_at, no_local}
 use Rattle.table_rows.specs.Rows.{row}
-use Rattle.table_rows.proofs.Laws.{length_row, row_set, row_beside, row_replaced, length_replaced, others_replaced, length_entries, entries_at, put_stored}
-use Rattle.value_local.specs.Meaning.{local}
+use Rattle.table_rows.proofs.Laws.{length_row, row_set, row_beside, length_after, others_after, length_entries, entries_at, put_stored}
+use Rattle.value_local.specs.Meaning.{local, binding_of, name_of}
+use Rattle.value_local.specs.declared.Binding.{Binding}
+use Rattle.value_local.specs.declared.Binding.TheVariants as binding_is
 use Rattle.value_local.specs.declared.LocalDefinition.{LocalDefinition}
-use Rattle.table_locals.specs.Meaning.{local_of_row, locals_of, with_use, numbers}
+use Rattle.table_locals.specs.Meaning.{binding, named, is_record, place_of, local_of_row, locals_of, with_use, numbers}
 use Rattle.table_locals.specs.Tables.{PutLocal}
 
 -- Flags
@@ -52,10 +57,27 @@ pub local_lent : (n id : ℕ) (t : List ℕ) → id < n → local_of_row (lent i
 unfolding row
 local_lent n id t h = rw (lent_width id) (sym (locals_at n id t h))
 
--- a local's numbers over an entry's
-entry_holds : (e : List ℕ) (l : LocalDefinition) → length e ≡ 16 → local_of_row (sets e 0 (numbers l)) ≡ local l
+-- what is stored as a flag and a number is read again
+
+named_back : (n : Option ℕ) → named (is_some n) (unwrap_or n 0) ≡ name_of n
+unfolding named name_of
+named_back (Some name) = refl
+named_back None = refl
+
+pub named_read : (has_name : Bool) (name : ℕ) → name_of (then_some has_name name) ≡ named has_name name
+unfolding named name_of
+named_read true name = refl
+named_read false name = refl
+
+binding_back : (b : Binding) → binding (is_record b) (place_of b) ≡ binding_of b
+unfolding binding binding_of is_record place_of
+binding_back (binding_is.Record place) = refl
+binding_back (binding_is.External position) = refl
+
+-- an entry that begins with a local's numbers
+entry_holds : (l : LocalDefinition) (rest : List ℕ) → local_of_row (numbers l ++ rest) ≡ local l
 unfolding numbers local local_of_row
-entry_holds e l h = ap local_of_row (sets-eq (numbers l) e 0 (omega arith)) ∙ simp is_set_bit
+entry_holds l rest = simp (is_set_bit, named_back, binding_back)
 
 -- A table in which one entry was stored
 
@@ -64,17 +86,17 @@ pub local_stored : (k : ℕ) (t u : List ℕ) → ((i : ℕ) → (i ≡ k → �
 unfolding locals_of
 local_stored k t u others l size here = put_stored local_of_row locals_of (λ n t. refl) k t u others l size here
 
--- a local's numbers over those of an entry that was lent
-pub put_entry : (id : ℕ) (t r : List ℕ) (l : LocalDefinition) → 16 * id + 16 ≤ length t → r ≡ sets (lent id t) 0 (numbers l)
-    → PutLocal t (take (16 * id) t ++ (r ++ drop (16 * id + 16 - 16 * id) (drop (16 * id) t))) id (local l)
-unfolding row
-put_entry id t r l inside e =
-    let entry = take 16 (drop (16 * id) t) in
-    let whole : length entry ≡ 16 = length_row id t inside in
-    let stored : r ≡ sets entry 0 (numbers l) = rw (lent_width id) at e in
-    let long : length r ≡ 16 = ap length stored ∙ length-sets entry 0 (numbers l) ∙ whole in
-    rw (lent_width id) (local_stored id t (take (16 * id) t ++ (r ++ drop 16 (drop (16 * id) t))) (others_replaced id t inside r long) (local l) (length_replaced id t inside r long)
-    (ap local_of_row (row_replaced id t inside r long ∙ stored) ∙ entry_holds entry l whole))
+-- a local's numbers over the first of an entry
+pub put_entry : (id n : ℕ) (t r : List ℕ) (l : LocalDefinition) → 16 * id + 16 ≤ length t → n ≡ 13 → r ≡ numbers l → PutLocal t (put_mid (16 * id) n t r) id (local l)
+unfolding row numbers
+put_entry id n t r l inside size e =
+    let few : 13 ≤ 16 = omega arith in
+    let within : 16 * id + 13 ≤ length t = omega arith in
+    let front : length (take (16 * id) t) ≡ 16 * id = length-take-le (16 * id) t (omega arith) in
+    rw (size, e)
+    (local_stored id t (put_mid (16 * id) 13 t (numbers l)) (others_after id 13 t (numbers l) few within refl) (local l) (length_after id 13 t (numbers l) few within refl)
+    (ap (λ (q : List ℕ). local_of_row (take 16 q)) (drop_at (take (16 * id) t) (numbers l ++ drop 13 (drop (16 * id) t)) (16 * id) front)
+    ∙ entry_holds l (take 3 (drop 13 (drop (16 * id) t)))))
 
 -- What a use changes
 

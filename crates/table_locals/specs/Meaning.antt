@@ -1,9 +1,12 @@
 -- What a table's entries mean: the rules' locals. Assumes nothing.
-use Rattle.std.specs.Prelude.{ℕ, List, [], ◌∷◌, map, get_or}
-use Rattle.rules.specs.Numbers.{bit, is_set}
+use Rattle.std.specs.Prelude.{ℕ, Bool, true, false, List, [], ◌∷◌, map, get_or, is_some, unwrap_or}
+use Rattle.std.proofs.Math.Option.{Option, none, some}
+use Rattle.rules.specs.Numbers.{Name, bit, is_set}
+use Rattle.rules.specs.Tree as tree
 use Rattle.rules.specs.Locals as rules
 use Rattle.table_rows.specs.Rows.{rows}
-use Rattle.value_local.specs.Meaning.{binding, named}
+use Rattle.value_local.specs.declared.Binding.{Binding}
+use Rattle.value_local.specs.declared.Binding.TheVariants as binding_is
 use Rattle.value_local.specs.declared.LocalDefinition.{LocalDefinition}
 
 -- a local with what a use changes as another has it
@@ -20,7 +23,25 @@ with_use used l = record {
   scratch_referenced = used.scratch_referenced;
 }
 
--- its numbers in an entry, in the order of the struct's fields; the last three of the sixteen are unused
+-- a flag and a number of an entry: a record of the tree by its place, or an external by its position
+unfoldable pub binding : (is_record : Bool) → (place : ℕ) → tree.Binding
+binding true place = tree.at_record place
+binding false place = tree.external place
+
+-- and a name, where there is one
+unfoldable pub named : (has_name : Bool) → Name → Option Name
+named true name = some name
+named false name = none
+
+unfoldable pub is_record : Binding → Bool
+is_record (binding_is.Record place) = true
+is_record (binding_is.External position) = false
+
+unfoldable pub place_of : Binding → ℕ
+place_of (binding_is.Record place) = place
+place_of (binding_is.External position) = position
+
+-- a local's numbers in an entry, in the order of the struct's fields; the last three of the sixteen are unused
 unfoldable pub numbers : LocalDefinition → List ℕ
 numbers l =
     l.defined_at_depth
@@ -32,10 +53,10 @@ numbers l =
     ∷ bit l.analyzed
     ∷ bit l.scratch_referenced
     ∷ l.span
-    ∷ bit l.has_name
-    ∷ l.name
-    ∷ bit l.is_record
-    ∷ l.place
+    ∷ bit (is_some l.name)
+    ∷ unwrap_or l.name 0
+    ∷ bit (is_record l.stands_for)
+    ∷ place_of l.stands_for
     ∷ []
 
 -- the local of an entry's numbers

@@ -1,17 +1,16 @@
-// Locals in a lent table of sixteen numbers an entry.
+// Locals in a lent table of sixteen numbers an entry. The table is the caller's, from C too: it has a flag beside a name or a place, not an option.
 
 #![tactic(auto)]
 
 ghost use Rattle.std.specs.Prelude.{◌≡◌, ℕ, ◌+◌, ◌*◌, ◌<◌, ◌≤◌, length};
-ghost use Rattle.std.proofs.lemmas.List.Edits.{sets};
 ghost use Rattle.rules.specs.Locals.{local_at};
 ghost use Rattle.table_rows.specs.Rows.{row};
-ghost use Rattle.value_local.specs.Meaning.{local};
-ghost use Rattle.table_locals.specs.Meaning.{local_of_row, locals_of, with_use, numbers};
+ghost use Rattle.value_local.specs.Meaning.{local, binding_of};
+ghost use Rattle.table_locals.specs.Meaning.{binding, local_of_row, locals_of, with_use, numbers};
 ghost use Rattle.table_locals.specs.Tables.{PutLocal};
 
 use value_depths::AnalysisResult;
-use value_local::{LocalDefinition, LocalId};
+use value_local::{Binding, LocalDefinition, LocalId};
 
 // Where an entry has the numbers that are stored alone.
 pub const USED_AT_DEPTH: usize = 1;
@@ -20,7 +19,19 @@ const USED_BY_SIBLING: usize = 2;
 
 pub const SCRATCH_REFERENCED: usize = 7;
 
-// The local of an entry's numbers.
+// What an entry's flag and number stand for.
+#[tactic(auto, unfolding(value_local::specs::Meaning::binding_of, crate::specs::Meaning::binding))]
+fn binding(is_record: bool, place: u32) -> Binding
+    ensures { binding_of result ≡ binding is_record place }
+{
+    if is_record {
+        Binding::Record(place)
+    } else {
+        Binding::External(place)
+    }
+}
+
+// The local of an entry's numbers, read one by one: a pattern of the slice would want an arm for shorter ones.
 fn from_entry(entry: &[u32]) -> LocalDefinition
     requires { length entry.now ≡ 16 }
     ensures { local result ≡ local_of_row entry.now }
@@ -34,14 +45,12 @@ fn from_entry(entry: &[u32]) -> LocalDefinition
         defined_at_depth: entry[0],
         used_at_depth: entry[1],
         used_by_sibling: entry[2] != 0,
-        analysis: analysis,
+        analysis,
         analyzed: entry[6] != 0,
         scratch_referenced: entry[7] != 0,
         span: entry[8],
-        has_name: entry[9] != 0,
-        name: entry[10],
-        is_record: entry[11] != 0,
-        place: entry[12],
+        name: (entry[9] != 0).then_some(entry[10]),
+        stands_for: binding(entry[11] != 0, entry[12]),
     }
 }
 
@@ -54,24 +63,29 @@ pub fn local_at(locals: &[u32], id: LocalId) -> LocalDefinition
     from_entry(&locals[from..from + 16])
 }
 
-// A local's numbers into an entry.
-fn to_entry(entry: &mut [u32], l: LocalDefinition)
-    requires { length entry.old ≡ 16 }
-    ensures { entry.new ≡ sets entry.old 0 (numbers l) }
+// A local's numbers in an entry.
+fn numbers(l: LocalDefinition) -> [u32; 13]
+    ensures { result ≡ numbers l }
 {
-    entry[0] = l.defined_at_depth;
-    entry[1] = l.used_at_depth;
-    entry[2] = l.used_by_sibling as u32;
-    entry[3] = l.analysis.object_dependent_depth;
-    entry[4] = l.analysis.local_dependent_depth;
-    entry[5] = l.analysis.local_dependent_depth_max;
-    entry[6] = l.analyzed as u32;
-    entry[7] = l.scratch_referenced as u32;
-    entry[8] = l.span;
-    entry[9] = l.has_name as u32;
-    entry[10] = l.name;
-    entry[11] = l.is_record as u32;
-    entry[12] = l.place;
+    let (is_record, place) = match l.stands_for {
+        Binding::Record(place) => (true, place),
+        Binding::External(position) => (false, position),
+    };
+    [
+        l.defined_at_depth,
+        l.used_at_depth,
+        l.used_by_sibling as u32,
+        l.analysis.object_dependent_depth,
+        l.analysis.local_dependent_depth,
+        l.analysis.local_dependent_depth_max,
+        l.analyzed as u32,
+        l.scratch_referenced as u32,
+        l.span,
+        l.name.is_some() as u32,
+        l.name.unwrap_or(0),
+        is_record as u32,
+        place,
+    ]
 }
 
 // A local into an entry.
@@ -80,7 +94,7 @@ pub fn put_local(locals: &mut [u32], id: LocalId, l: LocalDefinition)
     ensures { PutLocal locals.old locals.new id.0 (local l) }
 {
     let at = 16 * (id.0 as usize);
-    to_entry(&mut locals[at..at + 16], l);
+    locals[at..at + 13].copy_from_slice(&numbers(l));
 }
 
 // A local into its entry, where only what a use changes differs from what the entry holds.

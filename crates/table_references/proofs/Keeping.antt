@@ -1,14 +1,12 @@
 -- Laws of notes, of references and of keeping the noted ones. Assumes nothing.
-use Prim.Native.Nat.{ℕ, zero, suc, ◌+◌, ◌*◌, ◌-◌, ◌≤◌, ◌<◌}
-use mathlib.Core.Bool.{Bool, true, false, ◌&&◌}
+use Prim.Native.Nat.{ℕ, zero, suc, ◌+◌, ◌*◌, ◌≤◌, ◌<◌}
+use mathlib.Core.Bool.{Bool, true, false}
 use mathlib.Core.List.{List, [], ◌∷◌, ◌++◌, map, append-nil}
 use mathlib.Core.Path.{◌≡◌, refl, sym, ap, ◌∙◌}
 use native.Mathlib.Numerals.{add-one}
 use native.Mathlib.Omega.{arith}
-use lib.Dec.{eqb}
 use lib.ListN.{length, get_or, take, drop, set, length-append, length-set, drop_of_length-le}
 use lib.Seq.{append_snoc, drop-cons, drop-set-lt, take-suc, take-suc-set, take_all, get_or-set_same, get_or-set_other}
-use borrow.Author.Tests.{eqb-true}
 use Rattle.rules.specs.Outcome.{choose}
 use Rattle.rules.specs.Numbers.{is_set}
 use Rattle.rules.specs.Locals.{LocalDefinition, local_at, no_local, with_scratch_referenced, noted, without_notes}
@@ -17,7 +15,6 @@ use Rattle.table_rows.specs.Rows.{row}
 use Rattle.table_rows.proofs.Laws.{row_at, row_set, row_beside, length_entries, entries_at, put_stored, put_behind}
 use Rattle.table_locals.specs.Meaning.{local_of_row, locals_of}
 use Rattle.table_locals.specs.Tables.{PutLocal}
-use Rattle.table_locals.proofs.Fours.{four_tests}
 use Rattle.table_locals.proofs.Laws.{length_locals, locals_at, local_stored}
 use Rattle.rules.proofs.Flags.{set_of}
 use Rattle.table_references.specs.Meaning.{reference, reference_of_row, references_of, reference_at}
@@ -208,14 +205,6 @@ module _ {locals references : List ℕ} {user first total kept limit : ℕ} {t u
       keeping_refused full = omega (arith, length_references count u, with_noted_longer user k (locals_of total t) inside (references_of count u) set_here, ap length at.same_kept)
 
 -- Four locals further
-
--- their notes are read and tested
-pub four_unset : (t : List ℕ) (from end : ℕ) → 4 ≤ end - from
-    → ((eqb (get_or t (16 * from + 7) 0) 0 && eqb (get_or t (16 * from + 7 + 16) 0) 0) && (eqb (get_or t (16 * from + 7 + 32) 0) 0 && eqb (get_or t (16 * from + 7 + 48) 0) 0)) ≡ true → NoneNoted t from end
-four_unset t from end more tests = record {
-  inside = omega arith;
-  none = λ k after before. eqb-true (get_or t (16 * k + 7) 0) 0 (four_tests (λ j. eqb (get_or t j 0) 0) from 7 tests k after before);
-}
 
 module _ {locals references : List ℕ} {user first total kept limit : ℕ} {t u : List ℕ} {count k : ℕ} (begun : Keeping locals references user first total kept limit t u count k) where
   -- so many locals without notes

@@ -1,12 +1,10 @@
 -- What storing a reference, and keeping a spec's references, leave of the tables. Assumes nothing.
-use Rattle.std.specs.Prelude.{ℕ, ◌+◌, ◌*◌, ◌≤◌, ◌<◌, List, ◌++◌, map, ◌≡◌, length, get_or, take, drop}
+use Rattle.std.specs.Prelude.{ℕ, ◌+◌, ◌*◌, ◌≤◌, ◌<◌, List, ◌++◌, map, ◌≡◌, length, get_or, take, drop, Option, Some, None}
 use Rattle.rules.specs.Locals.{LocalDefinition, noted, without_notes}
 use Rattle.rules.specs.Settling.{Reference}
 use Rattle.table_rows.specs.Rows.{Put}
 use Rattle.table_locals.specs.Meaning.{locals_of}
 use Rattle.table_references.specs.Meaning.{reference, references_of}
-use Rattle.table_references.specs.declared.Kept.{Kept}
-use Rattle.table_references.specs.declared.Kept.TheVariants.{To, NoRoom}
 
 abbrev pub PutReference : (before after : List ℕ) → (i : ℕ) → Reference → Type 0
 PutReference before after i r = Put references_of before after i r
@@ -31,6 +29,6 @@ pub record AllKept (locals locals' references references' : List ℕ) (user firs
   pub locals_are : locals_of total locals' ≡ cleared first (locals_of total locals)
 
 -- they are, or they would pass the limit
-abbrev pub Keeps : Kept → (locals locals' references references' : List ℕ) → (user first total kept limit : ℕ) → Type 0
-Keeps (To count) locals locals' references references' user first total kept limit = AllKept locals locals' references references' user first total kept limit count
-Keeps NoRoom locals locals' references references' user first total kept limit = limit < length (with_noted user first (locals_of total locals) (references_of kept references))
+abbrev pub Keeps : Option ℕ → (locals locals' references references' : List ℕ) → (user first total kept limit : ℕ) → Type 0
+Keeps (Some count) locals locals' references references' user first total kept limit = AllKept locals locals' references references' user first total kept limit count
+Keeps None locals locals' references references' user first total kept limit = limit < length (with_noted user first (locals_of total locals) (references_of kept references))

@@ -1,13 +1,15 @@
 -- Laws of a table as rows of sixteen numbers, and of one in which an entry was stored. Assumes nothing.
 use mathlib.Core.Path.{◌≡◌, refl, sym, ap, ◌∙◌}
 use mathlib.Core.List.{List, [], ◌∷◌, ◌++◌, map, map-append}
-use Prim.Native.Nat.{ℕ, zero, suc, ◌+◌, ◌*◌, ◌-◌, ◌≤◌, ◌<◌}
+use Prim.Native.Nat.{ℕ, zero, suc, ◌+◌, ◌*◌, ◌≤◌, ◌<◌}
+use mathlib.Core.Logic.{◌⊎◌, inl, inr}
 use native.Mathlib.Omega.{arith}
 use native.Mathlib.Decide.{dec_lt, ℕ_discrete}
 use native.Mathlib.Numerals.{add-one}
-use lib.ListN.{length, take, drop, get_or, set, length-append, length-drop, length-map, length-set, take-append-drop, get_or-append, get_or-map}
-use lib.Seq.{take-set-lt, drop-set-add, drop-set-lt, take-set-le, take_at, drop_at, take-append-le, drop-append-le, drop-append-add, length-take-le, get_or-take, get_or-drop, get_or_at, get_or-set_same, get_or-set_other, ext_get_or}
-use borrow.Rule.Slice.PartMut.{same_len_mid}
+use lib.ListN.{length, take, drop, get_or, set, length-append, length-drop, length-map, length-set, get_or-append, get_or-map}
+use lib.Seq.{take-set-lt, drop-set-add, length-take-le, get_or-take, get_or-drop, get_or_at, get_or-set_same, get_or-set_other, ext_get_or}
+use borrow.Rule.Slice.PartMut.{put_mid}
+use Rattle.std.proofs.lemmas.List.{same_lists, places, map-set, get_or_default}
 use Rattle.table_rows.specs.Rows.{row, rows, Put}
 
 pub length_rows : (n : ℕ) (t : List ℕ) → length (rows n t) ≡ n
@@ -34,102 +36,41 @@ pub row_set : (k j v : ℕ) (t : List ℕ) → j < 16 → row k (set t (16 * k +
 unfolding row
 row_set k j v t h = ap (λ (l : List ℕ). take 16 l) (drop-set-add (16 * k) t j v) ∙ take-set-lt 16 (drop (16 * k) t) j v h
 
--- and leaves the other rows
-row_other : (i k j v : ℕ) (t : List ℕ) → j < 16 → i < k → row i (set t (16 * k + j) v) ≡ row i t
-unfolding row
-row_other i k j v t h lt =
-    let e : 16 * k + j ≡ 16 * i + (16 * (k - i) + j) = omega arith in
-    let far : 16 ≤ 16 * (k - i) + j = omega arith in
-    ap (λ (x : ℕ). take 16 (drop (16 * i) (set t x v))) e
-    ∙ ap (λ (l : List ℕ). take 16 l) (drop-set-add (16 * i) t (16 * (k - i) + j) v) ∙ take-set-le 16 (drop (16 * i) t) (16 * (k - i) + j) v far
+-- rows are the same where their numbers are
+same_rows : (k w : ℕ) (t u : List ℕ) → length u ≡ length t → ((j d : ℕ) → j < w → get_or u (16 * k + j) d ≡ get_or t (16 * k + j) d) → take w (drop (16 * k) u) ≡ take w (drop (16 * k) t)
+same_rows k w t u size same = same_lists _ _ (grind (arith, places)) (λ j d h. grind (arith, places, same))
 
-row_later : (i k j v : ℕ) (t : List ℕ) → j < 16 → k < i → row i (set t (16 * k + j) v) ≡ row i t
-unfolding row
-row_later i k j v t h lt =
-    let before : 16 * k + j < 16 * i = omega arith in
-    ap (λ (l : List ℕ). take 16 l) (drop-set-lt (16 * i) t (16 * k + j) v before)
-
--- it leaves every other row
+-- and leaves every other row
 pub row_beside : (i k j v : ℕ) (t : List ℕ) → j < 16 → (i ≡ k → ⊥) → row i (set t (16 * k + j) v) ≡ row i t
-row_beside i k j v t h differs = by (dec_lt i k)
-  where
-    by : Dec (i < k) → row i (set t (16 * k + j) v) ≡ row i t
-    by (yes before) = row_other i k j v t h before
-    by (no behind) = row_later i k j v t h (omega arith)
+unfolding row
+row_beside i k j v t h differs = same_rows i 16 t _ (length-set t (16 * k + j) v) (λ m d below. get_or-set_other t (16 * k + j) (16 * i + m) v d (λ e. omega arith))
 
--- Other numbers in the place of an entry's
+pub length_row : (k : ℕ) (t : List ℕ) → 16 * k + 16 ≤ length t → length (row k t) ≡ 16
+unfolding row
+length_row k t inside = length-take-le 16 (drop (16 * k) t) (omega (arith, length-drop (16 * k) t))
 
-module _ (k : ℕ) (t : List ℕ) (inside : 16 * k + 16 ≤ length t) where
-  -- what stands before the entry, the entry, and what stands after it
-  abbrev front : List ℕ
-  front = take (16 * k) t
+-- Other numbers in the place of an entry's first n
 
-  abbrev own : List ℕ
-  own = take 16 (drop (16 * k) t)
+module _ (i n : ℕ) (t a : List ℕ) (few : n ≤ 16) (inside : 16 * i + n ≤ length t) (size : length a ≡ n) where
+  pub length_after : length (put_mid (16 * i) n t a) ≡ length t
+  length_after = grind (arith, places)
 
-  abbrev rest : List ℕ
-  rest = drop 16 (drop (16 * k) t)
+  pub here_after : (j : ℕ) → j < n → get_or (put_mid (16 * i) n t a) (16 * i + j) 0 ≡ get_or a j 0
+  here_after j h = grind (arith, places)
 
-  all_parts : front ++ (own ++ rest) ≡ t
-  all_parts = ap (λ (l : List ℕ). front ++ l) (take-append-drop 16 (drop (16 * k) t)) ∙ take-append-drop (16 * k) t
+  number_beside : (m d : ℕ) → (m < 16 * i) ⊎ (16 * i + n ≤ m) → get_or (put_mid (16 * i) n t a) m d ≡ get_or t m d
+  number_beside m d (inl h) = grind (arith, places)
+  number_beside m d (inr h) = grind (arith, places)
 
-  length_front : length front ≡ 16 * k
-  length_front = length-take-le (16 * k) t (omega arith)
-
-  pub length_row : length (row k t) ≡ 16
+  pub others_after : (k : ℕ) → (k ≡ i → ⊥) → row k (put_mid (16 * i) n t a) ≡ row k t
   unfolding row
-  length_row = length-take-le 16 (drop (16 * k) t) (let e : length (drop (16 * k) t) ≡ length t - 16 * k = length-drop (16 * k) t in omega arith)
-
-  row_before : (i : ℕ) (q : List ℕ) → i < k → row i (front ++ q) ≡ row i front
-  unfolding row
-  row_before i q h =
-      let reach : 16 * i ≤ length front = omega (arith, length_front) in
-      let long : 16 ≤ length (drop (16 * i) front) = omega (arith, length_front, length-drop (16 * i) front) in
-      ap (take 16) (drop-append-le (16 * i) front q reach) ∙ take-append-le 16 (drop (16 * i) front) q long
-
-  row_behind : (i : ℕ) (q : List ℕ) → k < i → length q ≡ 16 → row i (front ++ (q ++ rest)) ≡ take 16 (drop (16 * (i - k) - 16) rest)
-  unfolding row
-  row_behind i q h len =
-      let far : 16 * i ≡ length front + (length q + (16 * (i - k) - 16)) = omega (arith, length_front) in
-      ap (take 16)
-      (ap (λ (n : ℕ). drop n (front ++ (q ++ rest))) far
-      ∙ drop-append-add front (q ++ rest) (length q + (16 * (i - k) - 16))
-      ∙ drop-append-add q rest (16 * (i - k) - 16))
-
-  module _ (r : List ℕ) (whole : length r ≡ 16) where
-    abbrev replaced : List ℕ
-    replaced = front ++ (r ++ rest)
-
-    length_own : length own ≡ 16
-    unfolding row
-    length_own = length_row
-
-    pub row_replaced : row k replaced ≡ r
-    unfolding row
-    row_replaced = ap (take 16) (drop_at front (r ++ rest) (16 * k) length_front) ∙ take_at r rest 16 whole
-
-    pub length_replaced : length replaced ≡ length t
-    length_replaced = same_len_mid (16 * k) 16 t r (whole ∙ sym length_own)
-
-    pub others_replaced : (i : ℕ) → (i ≡ k → ⊥) → row i replaced ≡ row i t
-    others_replaced i differs = by (dec_lt i k)
-      where
-        by : Dec (i < k) → row i replaced ≡ row i t
-        by (yes h) = row_before i (r ++ rest) h ∙ sym (row_before i (own ++ rest) h) ∙ ap (row i) all_parts
-        by (no h) = row_behind i r (omega arith) whole ∙ sym (row_behind i own (omega arith) length_own) ∙ ap (row i) all_parts
+  others_after k differs = same_rows k 16 t _ length_after (λ j d h. number_beside (16 * k + j) d (apart j h (dec_lt k i)))
+    where
+      apart : (j : ℕ) → j < 16 → Dec (k < i) → (16 * k + j < 16 * i) ⊎ (16 * i + n ≤ 16 * k + j)
+      apart j h (yes before) = inl (omega arith)
+      apart j h (no behind) = inr (omega arith)
 
 -- What rows mean
-
--- inside a list the default is not asked for
-getD_inside : {A : Type 0} (l : List A) (i : ℕ) (d e : A) → i < length l → get_or l i d ≡ get_or l i e
-getD_inside [] i d e h = absurd (omega arith)
-getD_inside (x ∷ l) zero d e h = refl
-getD_inside (x ∷ l) (suc i) d e h = getD_inside l i d e (omega arith)
-
-map_set : {A B : Type 0} (f : A → B) (l : List A) (i : ℕ) (a : A) → map f (set l i a) ≡ set (map f l) i (f a)
-map_set f [] i a = refl
-map_set f (x ∷ l) zero a = refl
-map_set f (x ∷ l) (suc i) a = ap (λ r. f x ∷ r) (map_set f l i a)
 
 -- the first n entries are as they were where each of them is
 rows_kept : (n : ℕ) (t u : List ℕ) → ((i : ℕ) → i < n → row i u ≡ row i t) → rows n u ≡ rows n t
@@ -147,7 +88,7 @@ module _ {A : Type 0} (entry : List ℕ → A) where
   pub entries_at : (n k : ℕ) (t : List ℕ) (default : A) → k < n → get_or (map entry (rows n t)) k default ≡ entry (row k t)
   entries_at n k t default h =
       let inside : k < length (map entry (rows n t)) = omega (arith, length_entries n t) in
-      getD_inside (map entry (rows n t)) k default (entry []) inside ∙ get_or-map entry (rows n t) k [] ∙ ap entry (rows_at n k t h)
+      get_or_default (map entry (rows n t)) k default (entry []) inside ∙ get_or-map entry (rows n t) k [] ∙ ap entry (rows_at n k t h)
 
   pub one_more_entry : (n : ℕ) (t : List ℕ) → map entry (rows (suc n) t) ≡ map entry (rows n t) ++ (entry (row n t) ∷ [])
   unfolding rows
@@ -169,7 +110,7 @@ module _ {A : Type 0} (entry : List ℕ → A) where
       pub put_stored : (a : A) → length u ≡ length t → entry (row k u) ≡ a → Put entries t u k a
       put_stored a size here = record {
         size = size;
-        held = λ n h. mean n u ∙ ap (map entry) (rows_stored n h) ∙ map_set entry (rows n t) k (row k u) ∙ rw (here, mean n t);
+        held = λ n h. mean n u ∙ ap (map entry) (rows_stored n h) ∙ map-set entry (rows n t) k (row k u) ∙ rw (here, mean n t);
         below = λ n h. mean n u ∙ ap (map entry) (rows_kept n t u (λ i lt. others i (λ e. omega arith))) ∙ sym (mean n t);
         others = others;
       }

@@ -9,8 +9,10 @@ use borrow.Author.Tests.{le-leb, lt-leb, eq-eqb, ne_eqb, lt-ltb}
 use Rattle.rules.specs.Outcome.{ok, refuse, need, ◌>>=◌}
 use Rattle.rules.specs.Numbers.{code_at}
 use Rattle.rules.proofs.After.{after_ok}
-use Rattle.tree.specs.declared.FirstWalk.{FirstWalk}
-use Rattle.tree.specs.declared.FirstWalk.TheVariants.{Past, Refused}
+use Rattle.refusal.specs.Meaning.{number_of}
+use Rattle.refusal.specs.declared.Reason.TheVariants.{CutShort, WrongMark, TooDeep}
+use Rattle.refusal.specs.declared.Refusal.{Refusal}
+use Rattle.std.specs.Prelude.{Result, Ok, Err}
 use Rattle.tree.specs.Seen.{seen}
 use Rattle.bytes_records.specs.Marks.{mark_of}
 use Rattle.bytes_skip.specs.Places.{judged_at, expected_at, Within}
@@ -22,8 +24,8 @@ use Rattle.tree.proofs.Binding.{past_seen, stopped, apart, same_place}
 module _ (s : List ℕ) where
   -- A record that is opened
 
-  module _ (nest c p : ℕ) {w : FirstWalk} (h : seen w ≡ judged_at s (mark_of c) p) where
-    pub opened_refused : {number place : ℕ} → w ≡ Refused number place → Opened s nest c p w
+  module _ (nest c p : ℕ) {w : Result ℕ Refusal} (h : seen w ≡ judged_at s (mark_of c) p) where
+    pub opened_refused : {why : Refusal} → w ≡ Err why → Opened s nest c p w
     unfolding opened_at
     opened_refused e = record {
       same = stopped h (λ q. need (ltb 0 nest) 4 p >>= λ _. ok q) e;
@@ -31,7 +33,7 @@ module _ (s : List ℕ) where
       level = λ q f. absurd (apart (sym e ∙ f));
     }
 
-    pub opened_deep : {q : ℕ} → w ≡ Past q → nest ≡ 0 → Opened s nest c p (Refused 4 p)
+    pub opened_deep : {q : ℕ} → w ≡ Ok q → nest ≡ 0 → Opened s nest c p (Err (record { reason = TooDeep; place = p }))
     unfolding opened_at need ◌>>=◌
     opened_deep e z = record {
       same = rw (← past_seen h e, z);
@@ -39,7 +41,7 @@ module _ (s : List ℕ) where
       level = λ q f. absurd (apart f);
     }
 
-    pub opened_went : {q : ℕ} → w ≡ Past q → (nest ≡ 0 → ⊥) → Opened s nest c p (Past q)
+    pub opened_went : {q : ℕ} → w ≡ Ok q → (nest ≡ 0 → ⊥) → Opened s nest c p (Ok q)
     unfolding opened_at need ◌>>=◌
     opened_went {q} e nz =
         let some_left : 0 < nest = omega arith in
@@ -65,16 +67,16 @@ module _ (s : List ℕ) where
       unfolding expected_at need ◌>>=◌
       expected_first e = rw (le-leb _ _ room, eq-eqb _ _ e)
 
-    expected_refused : {number place : ℕ} → expected_at s c p ≡ refuse number place → Expected s c p (Refused number place)
+    expected_refused : {why : Refusal} → expected_at s c p ≡ refuse (number_of why.reason) why.place → Expected s c p (Err why)
     expected_refused e = record { same = sym e; within = λ q f. absurd (apart f) }
 
-    pub expect_short : length s < p + 2 → Expected s c p (Refused 1 p)
+    pub expect_short : length s < p + 2 → Expected s c p (Err (record { reason = CutShort; place = p }))
     expect_short h = expected_refused (expected_short h)
 
-    pub expect_other : p + 2 ≤ length s → {m : ℕ} → m ≡ code_at s p → (m ≡ c → ⊥) → Expected s c p (Refused 2 p)
+    pub expect_other : p + 2 ≤ length s → {m : ℕ} → m ≡ code_at s p → (m ≡ c → ⊥) → Expected s c p (Err (record { reason = WrongMark; place = p }))
     expect_other room e ne = expected_refused (expected_other room (λ f. ne (e ∙ f)))
 
-    pub expect_first : p + 2 ≤ length s → {m : ℕ} → m ≡ code_at s p → m ≡ c → {w : FirstWalk} → seen w ≡ judged_at s (mark_of c) p → Expected s c p w
+    pub expect_first : p + 2 ≤ length s → {m : ℕ} → m ≡ code_at s p → m ≡ c → {w : Result ℕ Refusal} → seen w ≡ judged_at s (mark_of c) p → Expected s c p w
     expect_first room e f h = record {
       same = h ∙ sym (expected_first room (sym e ∙ f));
       within = λ q g. after_ok (judged_within s c p) (sym (past_seen h g));

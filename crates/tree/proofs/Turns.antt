@@ -1,10 +1,10 @@
 -- Turns of the walk's loops: what is left of the work, from here, gives what the whole gives. Assumes nothing.
 use Prim.Native.Nat.{ℕ, suc, ◌+◌, ◌-◌, ◌≤◌, ◌<◌}
-use mathlib.Core.Path.{◌≡◌, sym, subst}
+use mathlib.Core.Path.{◌≡◌, sym, ap, subst, ◌∙◌}
 use native.Mathlib.Omega.{arith}
-use Rattle.rules.specs.Outcome.{Outcome, ok, refuse, ◌>>=◌}
-use Rattle.tree.specs.declared.FirstWalk.{FirstWalk}
-use Rattle.tree.specs.declared.FirstWalk.TheVariants.{Past, Refused}
+use Rattle.rules.specs.Outcome.{Outcome, ok, ◌>>=◌}
+use Rattle.refusal.specs.declared.Refusal.{Refusal}
+use Rattle.std.specs.Prelude.{Result, Ok, Err}
 use Rattle.tree.specs.Seen.{seen}
 use Rattle.bytes_skip.specs.Places.{over}
 use Rattle.tree.proofs.Binding.{past_seen, refused_seen}
@@ -23,14 +23,14 @@ module _ (f : ℕ → Outcome ℕ) where
     unfolding over
     one_more lt = let e : n - i ≡ suc (n - (i + 1)) = omega arith in (rw e at T.same)
 
-    pub turn_next : {r : FirstWalk} {q : ℕ} → i < n → seen r ≡ f p → r ≡ Past q → Turn f w n (i + 1) q
+    pub turn_next : {r : Result ℕ Refusal} {q : ℕ} → i < n → seen r ≡ f p → r ≡ Ok q → Turn f w n (i + 1) q
     unfolding ◌>>=◌
     turn_next {q = q} lt h e =
         record { same = subst (λ (x : Outcome ℕ). (x >>= λ q. over (n - (i + 1)) f q) ≡ w) (sym (past_seen h e)) (one_more lt); turns = omega arith }
 
-    pub turn_stop : {r : FirstWalk} {number place : ℕ} → i < n → seen r ≡ f p → r ≡ Refused number place → refuse number place ≡ w
+    pub turn_stop : {r : Result ℕ Refusal} {why : Refusal} → i < n → seen r ≡ f p → r ≡ Err why → seen r ≡ w
     unfolding ◌>>=◌
-    turn_stop lt h e = subst (λ (x : Outcome ℕ). (x >>= λ q. over (n - (i + 1)) f q) ≡ w) (sym (refused_seen h e)) (one_more lt)
+    turn_stop lt h e = ap seen e ∙ subst (λ (x : Outcome ℕ). (x >>= λ q. over (n - (i + 1)) f q) ≡ w) (sym (refused_seen h e)) (one_more lt)
 
     pub turn_end : n ≤ i → ok p ≡ w
     unfolding over

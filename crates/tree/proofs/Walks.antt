@@ -2,6 +2,7 @@
 use Prim.Native.Nat.{ℕ, suc, ◌+◌, ◌*◌, ◌-◌, ◌≤◌, ◌<◌}
 use mathlib.Core.Bool.{Bool, true, false}
 use mathlib.Core.List.{List, [], ◌∷◌}
+use mathlib.Core.Logic.{◌⊎◌, inl, inr}
 use mathlib.Core.Option.{none, some}
 use mathlib.Core.Path.{◌≡◌, refl, sym, ap, subst, ◌∙◌}
 use native.Mathlib.Omega.{arith}
@@ -15,8 +16,8 @@ use Rattle.rules.specs.FirstWalk.{Form, any_expression, rows, row_of, constants_
 use Rattle.rules.proofs.After.{chosen}
 use Rattle.rules.proofs.Outcomes.{Both, bind_got}
 use Rattle.rules.proofs.Flags.{set_of}
-use Rattle.tree.specs.declared.FirstWalk.{FirstWalk}
-use Rattle.tree.specs.declared.FirstWalk.TheVariants.{Past, Refused}
+use Rattle.refusal.specs.declared.Refusal.{Refusal}
+use Rattle.std.specs.Prelude.{Result, Ok, Err}
 use Rattle.tree.specs.Seen.{seen}
 use Rattle.bytes_skip.specs.Places.{past, over, expected_at, expr_past, exprs_past, below_past, held_past}
 use Rattle.bytes_records.specs.Marks.{mark_of, children}
@@ -26,7 +27,7 @@ use Rattle.bytes_skip.specs.Behind.{Behind}
 use Rattle.bytes_records.proofs.Laws.{All, ◌also◌, numbers_part}
 use Rattle.tree.proofs.Binding.{past_seen, refused_seen, went, stopped}
 use Rattle.bytes_skip.proofs.Heads.{head_fits}
-use Rattle.tree.proofs.Definition.{expr_other, bind_function, bind_value}
+use Rattle.tree.proofs.Definition.{expr_other, expr_identity, expr_constant, expr_variable, expr_unary, expr_binary, expr_assert, expr_error, expr_import, expr_if, expr_slice, bind_function, bind_value}
 
 -- what is known by a mark's number in hand is known by the number itself
 pub by_mark : (f : ℕ → Outcome ℕ) {x y : Outcome ℕ} {mark m : ℕ} → x ≡ f mark → mark ≡ m → f m ≡ y → x ≡ y
@@ -49,27 +50,45 @@ module _ (s : List ℕ) (nest at : ℕ) where
   unfolding rows
   expr_unknown room e all = expr_other s nest at room any_expression (rw (← e) (row_missing _ (rows any_expression) all))
 
+  module _ (room : at + 2 ≤ length s) {mark : ℕ} (k : mark ≡ code_at s at) {x : Outcome ℕ} where
+    -- `ID`, `IM`, `TV` and `VA` have nothing below them
+    pub leaf_here : (mark ≡ 0x4944) ⊎ (mark ≡ 0x494d) ⊎ (mark ≡ 0x5456) ⊎ (mark ≡ 0x5641) → x ≡ opened_at s nest mark at → x ≡ past (expr_at s nest any_expression at)
+    leaf_here (inl e) h = by_mark (λ m. opened_at s nest m at) h e (expr_identity s nest at room (sym k ∙ e))
+    leaf_here (inr (inl e)) h = by_mark (λ m. opened_at s nest m at) h e (expr_import s nest at room (sym k ∙ e))
+    leaf_here (inr (inr (inl e))) h = by_mark (λ m. opened_at s nest m at) h e (expr_constant s nest at room (sym k ∙ e))
+    leaf_here (inr (inr (inr e))) h = by_mark (λ m. opened_at s nest m at) h e (expr_variable s nest at room (sym k ∙ e))
+
+    -- `AS`, `BI`, `ER`, `IF`, `SC` and `UN` have expressions below them and nothing else
+    pub plain_here : (mark ≡ 0x4153) ⊎ (mark ≡ 0x4249) ⊎ (mark ≡ 0x4552) ⊎ (mark ≡ 0x4946) ⊎ (mark ≡ 0x5343) ⊎ (mark ≡ 0x554e) → x ≡ plain_past s nest mark at
+        → x ≡ past (expr_at s nest any_expression at)
+    plain_here (inl e) h = by_mark (λ m. plain_past s nest m at) h e (expr_assert s nest at room (sym k ∙ e))
+    plain_here (inr (inl e)) h = by_mark (λ m. plain_past s nest m at) h e (expr_binary s nest at room (sym k ∙ e))
+    plain_here (inr (inr (inl e))) h = by_mark (λ m. plain_past s nest m at) h e (expr_error s nest at room (sym k ∙ e))
+    plain_here (inr (inr (inr (inl e)))) h = by_mark (λ m. plain_past s nest m at) h e (expr_if s nest at room (sym k ∙ e))
+    plain_here (inr (inr (inr (inr (inl e))))) h = by_mark (λ m. plain_past s nest m at) h e (expr_slice s nest at room (sym k ∙ e))
+    plain_here (inr (inr (inr (inr (inr e))))) h = by_mark (λ m. plain_past s nest m at) h e (expr_unary s nest at room (sym k ∙ e))
+
   -- the numbers of a record, as the code counts what stands below it
   children_here : (mark : ℕ) {n : ℕ} → n ≡ children (mark_of mark) (numbers_at (take (length s - at) (drop at s)) (numbers_of (mark_of mark)) 2)
       → n ≡ children (mark_of mark) (numbers_at s (numbers_of (mark_of mark)) (at + 2))
   children_here mark e = e ∙ ap (children (mark_of mark)) (numbers_part s at (numbers_of (mark_of mark)) 2)
 
-  module _ {w : FirstWalk} (mark : ℕ) where
-    pub plain_refused : {number place : ℕ} → seen w ≡ opened_at s nest mark at → w ≡ Refused number place → seen w ≡ plain_past s nest mark at
+  module _ {w : Result ℕ Refusal} (mark : ℕ) where
+    pub plain_refused : {why : Refusal} → seen w ≡ opened_at s nest mark at → w ≡ Err why → seen w ≡ plain_past s nest mark at
     unfolding plain_past
     plain_refused h e = stopped h (below_past s (nest - 1) mark at) e
 
-    pub plain_went : {q n : ℕ} {x : Outcome ℕ} → seen w ≡ opened_at s nest mark at → w ≡ Past q
+    pub plain_went : {q n : ℕ} {x : Outcome ℕ} → seen w ≡ opened_at s nest mark at → w ≡ Ok q
         → n ≡ children (mark_of mark) (numbers_at (take (length s - at) (drop at s)) (numbers_of (mark_of mark)) 2)
         → x ≡ exprs_past s (nest - 1) n q → x ≡ plain_past s nest mark at
     unfolding plain_past below_past
     plain_went {q} h e en k = k ∙ ap (λ (n : ℕ). exprs_past s (nest - 1) n q) (children_here mark en) ∙ went h (below_past s (nest - 1) mark at) e
 
-    pub held_refused : {number place : ℕ} → seen w ≡ expected_at s mark at → w ≡ Refused number place → seen w ≡ held_past s nest mark at
+    pub held_refused : {why : Refusal} → seen w ≡ expected_at s mark at → w ≡ Err why → seen w ≡ held_past s nest mark at
     unfolding held_past
     held_refused h e = stopped h (below_past s nest mark at) e
 
-    pub held_went : {q n : ℕ} {x : Outcome ℕ} → seen w ≡ expected_at s mark at → w ≡ Past q
+    pub held_went : {q n : ℕ} {x : Outcome ℕ} → seen w ≡ expected_at s mark at → w ≡ Ok q
         → n ≡ children (mark_of mark) (numbers_at (take (length s - at) (drop at s)) (numbers_of (mark_of mark)) 2)
         → x ≡ exprs_past s nest n q → x ≡ held_past s nest mark at
     unfolding held_past below_past
@@ -115,94 +134,94 @@ module _ (s : List ℕ) (nest at : ℕ) where
 
   -- Two steps below a record
 
-  module _ {w : FirstWalk} {a : Outcome ℕ} (h : seen w ≡ a) (f g : ℕ → Outcome ℕ) where
-    first_refused : {number place : ℕ} → w ≡ Refused number place → seen w ≡ (a >>= λ q. f q >>= g)
+  module _ {w : Result ℕ Refusal} {a : Outcome ℕ} (h : seen w ≡ a) (f g : ℕ → Outcome ℕ) where
+    first_refused : {why : Refusal} → w ≡ Err why → seen w ≡ (a >>= λ q. f q >>= g)
     first_refused e = stopped h (λ q. f q >>= g) e
 
-    module _ {q : ℕ} (e : w ≡ Past q) {b : FirstWalk} (k : seen b ≡ f q) where
-      second_refused : {number place : ℕ} → b ≡ Refused number place → seen b ≡ (a >>= λ q. f q >>= g)
+    module _ {q : ℕ} (e : w ≡ Ok q) {b : Result ℕ Refusal} (k : seen b ≡ f q) where
+      second_refused : {why : Refusal} → b ≡ Err why → seen b ≡ (a >>= λ q. f q >>= g)
       second_refused d = stopped k g d ∙ went h (λ q. f q >>= g) e
 
-      both_went : {x : Outcome ℕ} {t : ℕ} → b ≡ Past t → x ≡ g t → x ≡ (a >>= λ q. f q >>= g)
+      both_went : {x : Outcome ℕ} {t : ℕ} → b ≡ Ok t → x ≡ g t → x ≡ (a >>= λ q. f q >>= g)
       both_went d l = l ∙ went k g d ∙ went h (λ q. f q >>= g) e
 
-  module _ {w : FirstWalk} where
+  module _ {w : Result ℕ Refusal} where
     module _ (h : seen w ≡ opened_at s nest 0x4f58 at) where
-      pub extended_refused : {number place : ℕ} → w ≡ Refused number place → seen w ≡ extended_past s nest at
+      pub extended_refused : {why : Refusal} → w ≡ Err why → seen w ≡ extended_past s nest at
       unfolding extended_past
       extended_refused e = first_refused h extended_base extended_object e
 
-      module _ {q : ℕ} (e : w ≡ Past q) {b : FirstWalk} (k : seen b ≡ past (expr_at s (nest - 1) any_expression q)) where
-        pub base_refused : {number place : ℕ} → b ≡ Refused number place → seen b ≡ extended_past s nest at
+      module _ {q : ℕ} (e : w ≡ Ok q) {b : Result ℕ Refusal} (k : seen b ≡ past (expr_at s (nest - 1) any_expression q)) where
+        pub base_refused : {why : Refusal} → b ≡ Err why → seen b ≡ extended_past s nest at
         unfolding extended_past expr_past
         base_refused d = second_refused h extended_base extended_object e k d
 
-        pub extended_went : {x : Outcome ℕ} {t : ℕ} → b ≡ Past t → x ≡ expr_past s (nest - 1) (lone 0x4f42) t → x ≡ extended_past s nest at
+        pub extended_went : {x : Outcome ℕ} {t : ℕ} → b ≡ Ok t → x ≡ expr_past s (nest - 1) (lone 0x4f42) t → x ≡ extended_past s nest at
         unfolding extended_past expr_past
         extended_went d l = both_went h extended_base extended_object e k d l
 
     module _ (h : seen w ≡ opened_at s nest 0x4c4f at) where
-      pub local_refused : {number place : ℕ} → w ≡ Refused number place → seen w ≡ local_past s nest at
+      pub local_refused : {why : Refusal} → w ≡ Err why → seen w ≡ local_past s nest at
       unfolding local_past
       local_refused e = first_refused h local_binds (expr_past s (nest - 1) any_expression) e
 
-      module _ {q n : ℕ} (e : w ≡ Past q) (en : n ≡ number_at s (at + 2)) {b : FirstWalk} (k : seen b ≡ over n (bind_past s (nest - 1)) q) where
-        pub binds_refused : {number place : ℕ} → b ≡ Refused number place → seen b ≡ local_past s nest at
+      module _ {q n : ℕ} (e : w ≡ Ok q) (en : n ≡ number_at s (at + 2)) {b : Result ℕ Refusal} (k : seen b ≡ over n (bind_past s (nest - 1)) q) where
+        pub binds_refused : {why : Refusal} → b ≡ Err why → seen b ≡ local_past s nest at
         unfolding local_past
         binds_refused d = second_refused h local_binds (expr_past s (nest - 1) any_expression) e (counted (bind_past s (nest - 1)) _ k en) d
 
-        pub local_went : {x : Outcome ℕ} {t : ℕ} → b ≡ Past t → x ≡ past (expr_at s (nest - 1) any_expression t) → x ≡ local_past s nest at
+        pub local_went : {x : Outcome ℕ} {t : ℕ} → b ≡ Ok t → x ≡ past (expr_at s (nest - 1) any_expression t) → x ≡ local_past s nest at
         unfolding local_past expr_past
         local_went d l = both_went h local_binds (expr_past s (nest - 1) any_expression) e (counted (bind_past s (nest - 1)) _ k en) d l
 
     module _ (h : seen w ≡ opened_at s nest 0x464e at) where
-      pub function_refused : {number place : ℕ} → w ≡ Refused number place → seen w ≡ function_past s nest at
+      pub function_refused : {why : Refusal} → w ≡ Err why → seen w ≡ function_past s nest at
       unfolding function_past
       function_refused e = first_refused h function_params (expr_past s (nest - 1) any_expression) e
 
-      module _ {q n : ℕ} (e : w ≡ Past q) (en : n ≡ number_at s (at + 6)) {b : FirstWalk} (k : seen b ≡ over n (held_past s (nest - 1) 0x5041) q) where
-        pub params_refused : {number place : ℕ} → b ≡ Refused number place → seen b ≡ function_past s nest at
+      module _ {q n : ℕ} (e : w ≡ Ok q) (en : n ≡ number_at s (at + 6)) {b : Result ℕ Refusal} (k : seen b ≡ over n (held_past s (nest - 1) 0x5041) q) where
+        pub params_refused : {why : Refusal} → b ≡ Err why → seen b ≡ function_past s nest at
         unfolding function_past
         params_refused d = second_refused h function_params (expr_past s (nest - 1) any_expression) e (counted (held_past s (nest - 1) 0x5041) _ k en) d
 
-        pub function_went : {x : Outcome ℕ} {t : ℕ} → b ≡ Past t → x ≡ past (expr_at s (nest - 1) any_expression t) → x ≡ function_past s nest at
+        pub function_went : {x : Outcome ℕ} {t : ℕ} → b ≡ Ok t → x ≡ past (expr_at s (nest - 1) any_expression t) → x ≡ function_past s nest at
         unfolding function_past expr_past
         function_went d l = both_went h function_params (expr_past s (nest - 1) any_expression) e (counted (held_past s (nest - 1) 0x5041) _ k en) d l
 
     module _ (h : seen w ≡ opened_at s nest 0x4150 at) where
-      pub call_refused : {number place : ℕ} → w ≡ Refused number place → seen w ≡ call_past s nest at
+      pub call_refused : {why : Refusal} → w ≡ Err why → seen w ≡ call_past s nest at
       unfolding call_past
       call_refused e = first_refused h call_values call_named e
 
-      module _ {q n : ℕ} (e : w ≡ Past q) (en : n ≡ number_at s (at + 2)) {b : FirstWalk} (k : seen b ≡ exprs_past s (nest - 1) (1 + n) q) where
-        pub values_refused : {number place : ℕ} → b ≡ Refused number place → seen b ≡ call_past s nest at
+      module _ {q n : ℕ} (e : w ≡ Ok q) (en : n ≡ number_at s (at + 2)) {b : Result ℕ Refusal} (k : seen b ≡ exprs_past s (nest - 1) (1 + n) q) where
+        pub values_refused : {why : Refusal} → b ≡ Err why → seen b ≡ call_past s nest at
         unfolding call_past
         values_refused d = second_refused h call_values call_named e (k ∙ ap (λ (n : ℕ). exprs_past s (nest - 1) (1 + n) q) en) d
 
-        pub call_went : {x : Outcome ℕ} {t m : ℕ} → b ≡ Past t → m ≡ number_at s (at + 6) → x ≡ over m (held_past s (nest - 1) 0x4e41) t → x ≡ call_past s nest at
+        pub call_went : {x : Outcome ℕ} {t m : ℕ} → b ≡ Ok t → m ≡ number_at s (at + 6) → x ≡ over m (held_past s (nest - 1) 0x4e41) t → x ≡ call_past s nest at
         unfolding call_past
         call_went d em l = both_went h call_values call_named e (k ∙ ap (λ (n : ℕ). exprs_past s (nest - 1) (1 + n) q) en) d (counted (held_past s (nest - 1) 0x4e41) _ l em)
 
     module _ (h : seen w ≡ opened_at s nest 0x4958 at) where
-      pub index_refused : {number place : ℕ} → w ≡ Refused number place → seen w ≡ index_past s nest at
+      pub index_refused : {why : Refusal} → w ≡ Err why → seen w ≡ index_past s nest at
       unfolding index_past
       index_refused e = first_refused h (expr_past s (nest - 1) any_expression) index_parts e
 
-      module _ {q : ℕ} (e : w ≡ Past q) {b : FirstWalk} (k : seen b ≡ past (expr_at s (nest - 1) any_expression q)) where
-        pub value_refused : {number place : ℕ} → b ≡ Refused number place → seen b ≡ index_past s nest at
+      module _ {q : ℕ} (e : w ≡ Ok q) {b : Result ℕ Refusal} (k : seen b ≡ past (expr_at s (nest - 1) any_expression q)) where
+        pub value_refused : {why : Refusal} → b ≡ Err why → seen b ≡ index_past s nest at
         unfolding index_past expr_past
         value_refused d = second_refused h (expr_past s (nest - 1) any_expression) index_parts e k d
 
-        pub index_went : {x : Outcome ℕ} {t m : ℕ} → b ≡ Past t → m ≡ number_at s (at + 2) → x ≡ over m (held_past s (nest - 1) 0x5054) t → x ≡ index_past s nest at
+        pub index_went : {x : Outcome ℕ} {t m : ℕ} → b ≡ Ok t → m ≡ number_at s (at + 2) → x ≡ over m (held_past s (nest - 1) 0x5054) t → x ≡ index_past s nest at
         unfolding index_past expr_past
         index_went d em l = both_went h (expr_past s (nest - 1) any_expression) index_parts e k d (counted (held_past s (nest - 1) 0x5054) _ l em)
 
     module _ (h : seen w ≡ opened_at s nest 0x4152 at) where
-      pub array_refused : {number place : ℕ} → w ≡ Refused number place → seen w ≡ array_past s nest at
+      pub array_refused : {why : Refusal} → w ≡ Err why → seen w ≡ array_past s nest at
       unfolding array_past
       array_refused e = stopped h array_items e
 
-      module _ {q n : ℕ} {b : Bool} (e : w ≡ Past q) (en : n ≡ number_at s (at + 2)) (k : b ≡ is_some (constants_at s n q)) where
+      module _ {q n : ℕ} {b : Bool} (e : w ≡ Ok q) (en : n ≡ number_at s (at + 2)) (k : b ≡ is_some (constants_at s n q)) where
         constant_as : is_some (constants_at s (number_at s (at + 2)) q) ≡ b
         constant_as = ap (λ (n : ℕ). is_some (constants_at s n q)) (sym en) ∙ sym k
 
@@ -220,36 +239,36 @@ module _ (s : List ℕ) (nest at : ℕ) where
 
     -- `OB`: four steps
     module _ (h : seen w ≡ opened_at s nest 0x4f42 at) where
-      pub object_refused : {number place : ℕ} → w ≡ Refused number place → seen w ≡ object_past s nest at
+      pub object_refused : {why : Refusal} → w ≡ Err why → seen w ≡ object_past s nest at
       unfolding object_past
       object_refused e = stopped h object_heads e
 
-      module _ {q : ℕ} (e : w ≡ Past q) where
+      module _ {q : ℕ} (e : w ≡ Ok q) where
         after_opened : object_heads q ≡ object_past s nest at
         unfolding object_past
         after_opened = went h object_heads e
 
-        module _ {f : ℕ} (ef : f ≡ number_at s (at + 10)) {b : FirstWalk} (kb : seen b ≡ over f (held_past s (nest - 1) 0x4648) q) where
-          pub heads_refused : {number place : ℕ} → b ≡ Refused number place → seen b ≡ object_past s nest at
+        module _ {f : ℕ} (ef : f ≡ number_at s (at + 10)) {b : Result ℕ Refusal} (kb : seen b ≡ over f (held_past s (nest - 1) 0x4648) q) where
+          pub heads_refused : {why : Refusal} → b ≡ Err why → seen b ≡ object_past s nest at
           heads_refused d = stopped (counted (held_past s (nest - 1) 0x4648) _ kb ef) (object_locals q) d ∙ after_opened
 
-          module _ {u : ℕ} (eb : b ≡ Past u) where
+          module _ {u : ℕ} (eb : b ≡ Ok u) where
             after_heads : object_locals q u ≡ object_past s nest at
             after_heads = went (counted (held_past s (nest - 1) 0x4648) _ kb ef) (object_locals q) eb ∙ after_opened
 
-            module _ {l : ℕ} (el : l ≡ number_at s (at + 2)) {c : FirstWalk} (kc : seen c ≡ over l (bind_past s (nest - 1)) u) where
-              pub locals_refused : {number place : ℕ} → c ≡ Refused number place → seen c ≡ object_past s nest at
+            module _ {l : ℕ} (el : l ≡ number_at s (at + 2)) {c : Result ℕ Refusal} (kc : seen c ≡ over l (bind_past s (nest - 1)) u) where
+              pub locals_refused : {why : Refusal} → c ≡ Err why → seen c ≡ object_past s nest at
               locals_refused d = stopped (counted (bind_past s (nest - 1)) _ kc el) (object_assertions q) d ∙ after_heads
 
-              module _ {v : ℕ} (ec : c ≡ Past v) where
+              module _ {v : ℕ} (ec : c ≡ Ok v) where
                 after_locals : object_assertions q v ≡ object_past s nest at
                 after_locals = went (counted (bind_past s (nest - 1)) _ kc el) (object_assertions q) ec ∙ after_heads
 
-                module _ {a : ℕ} (ea : a ≡ number_at s (at + 6)) {d : FirstWalk} (kd : seen d ≡ over a (held_past s (nest - 1) 0x4154) v) where
-                  pub assertions_refused : {number place : ℕ} → d ≡ Refused number place → seen d ≡ object_past s nest at
+                module _ {a : ℕ} (ea : a ≡ number_at s (at + 6)) {d : Result ℕ Refusal} (kd : seen d ≡ over a (held_past s (nest - 1) 0x4154) v) where
+                  pub assertions_refused : {why : Refusal} → d ≡ Err why → seen d ≡ object_past s nest at
                   assertions_refused g = stopped (counted (held_past s (nest - 1) 0x4154) _ kd ea) (object_values q) g ∙ after_locals
 
-                  pub object_went : {x : Outcome ℕ} {t : ℕ} → d ≡ Past t → x ≡ values_past s (nest - 1) f q t → x ≡ object_past s nest at
+                  pub object_went : {x : Outcome ℕ} {t : ℕ} → d ≡ Ok t → x ≡ values_past s (nest - 1) f q t → x ≡ object_past s nest at
                   object_went {t = t} g k =
                       k ∙ ap (λ (f : ℕ). values_past s (nest - 1) f q t) ef ∙ went (counted (held_past s (nest - 1) 0x4154) _ kd ea) (object_values q) g ∙ after_locals
 
@@ -258,11 +277,11 @@ module _ (s : List ℕ) (nest at : ℕ) where
   pub bind_held : {m : ℕ} {x : Outcome ℕ} → m ≡ code_at s at → (m ≡ 0x4246 → ⊥) → x ≡ held_past s nest 0x4256 at → x ≡ bind_past s nest at
   bind_held e ne k = k ∙ sym (bind_value s nest at (λ f. ne (e ∙ f)))
 
-  module _ {m : ℕ} {w : FirstWalk} (e : m ≡ code_at s at) (f : m ≡ 0x4246) (h : seen w ≡ expected_at s 0x4246 at) where
-    pub bind_refused : {number place : ℕ} → w ≡ Refused number place → seen w ≡ bind_past s nest at
+  module _ {m : ℕ} {w : Result ℕ Refusal} (e : m ≡ code_at s at) (f : m ≡ 0x4246) (h : seen w ≡ expected_at s 0x4246 at) where
+    pub bind_refused : {why : Refusal} → w ≡ Err why → seen w ≡ bind_past s nest at
     bind_refused d = stopped h (λ q. expr_past s nest (lone 0x464e) q) d ∙ sym (bind_function s nest at (sym e ∙ f))
 
-    pub bind_went : {x : Outcome ℕ} {q : ℕ} → w ≡ Past q → x ≡ expr_past s nest (lone 0x464e) q → x ≡ bind_past s nest at
+    pub bind_went : {x : Outcome ℕ} {q : ℕ} → w ≡ Ok q → x ≡ expr_past s nest (lone 0x464e) q → x ≡ bind_past s nest at
     bind_went d k = k ∙ went h (λ q. expr_past s nest (lone 0x464e) q) d ∙ sym (bind_function s nest at (sym e ∙ f))
 
   -- A field's value
@@ -308,11 +327,11 @@ module _ (s : List ℕ) (nest : ℕ) where
           let e : n - i ≡ suc (n - (i + 1)) = omega arith in
           (rw (e, head_read.first) at T.same)
 
-      pub values_stop : {r : FirstWalk} {number place : ℕ} → seen r ≡ value_past s nest head p → r ≡ Refused number place → refuse number place ≡ w
+      pub values_stop : {r : Result ℕ Refusal} {why : Refusal} → seen r ≡ value_past s nest head p → r ≡ Err why → seen r ≡ w
       unfolding ◌>>=◌
-      values_stop h e = subst (λ (x : Outcome ℕ). (x >>= λ q. values_past s nest (n - (i + 1)) head_read.middle q) ≡ w) (sym (refused_seen h e)) values_more
+      values_stop h e = ap seen e ∙ subst (λ (x : Outcome ℕ). (x >>= λ q. values_past s nest (n - (i + 1)) head_read.middle q) ≡ w) (sym (refused_seen h e)) values_more
 
-      pub values_next : {r : FirstWalk} {q next : ℕ} → seen r ≡ value_past s nest head p → r ≡ Past q → Behind s head next → ValuesTurn s nest w n (i + 1) next q
+      pub values_next : {r : Result ℕ Refusal} {q next : ℕ} → seen r ≡ value_past s nest head p → r ≡ Ok q → Behind s head next → ValuesTurn s nest w n (i + 1) next q
       unfolding ◌>>=◌
       values_next {q = q} {next = next} h e b =
           let there : next ≡ head_read.middle = b nest head_read.middle head_read.first in

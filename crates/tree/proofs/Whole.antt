@@ -10,8 +10,8 @@ use Rattle.rules.specs.Numbers.{JT, code, number_at, numbers_at}
 use Rattle.rules.specs.Records.{numbers_of, widths, width, fields}
 use Rattle.rules.specs.Tree.{Tree}
 use Rattle.rules.specs.FirstWalk.{any_expression, only, nth, expr_at, tree_at}
-use Rattle.tree.specs.declared.FirstWalk.{FirstWalk}
-use Rattle.tree.specs.declared.FirstWalk.TheVariants.{Past, Refused}
+use Rattle.refusal.specs.declared.Refusal.{Refusal}
+use Rattle.std.specs.Prelude.{Result, Ok, Err}
 use Rattle.tree.specs.Seen.{seen, ended}
 use Rattle.bytes_skip.specs.Places.{past, expected_at}
 use Rattle.tree.proofs.Binding.{went, stopped}
@@ -58,12 +58,12 @@ module _ (s : List ℕ) where
       ended_past (length s) (expr_at s 200 any_expression (p + 4 * number_at s 2)) _ end_past (λ a.
       ended_bind (length s) (need (eqb a.1 (length s)) 5 a.1) _ (λ _. ok (length s)) (λ _. refl))))))
 
-  module _ {w : FirstWalk} (h : seen w ≡ expected_at s 0x4a54 0) where
-    pub tree_refused : {number place : ℕ} → w ≡ Refused number place → seen w ≡ ended (length s) (tree_at s)
+  module _ {w : Result ℕ Refusal} (h : seen w ≡ expected_at s 0x4a54 0) where
+    pub tree_refused : {why : Refusal} → w ≡ Err why → seen w ≡ ended (length s) (tree_at s)
     unfolding code
     tree_refused e = stopped h head_past e ∙ sym tree_past
 
-    module _ {p : ℕ} (e : w ≡ Past p) where
+    module _ {p : ℕ} (e : w ≡ Ok p) where
       tree_went : head_past p ≡ ended (length s) (tree_at s)
       unfolding code
       tree_went = went h head_past e ∙ sym tree_past
@@ -90,11 +90,11 @@ module _ (s : List ℕ) where
             unfolding need ◌>>=◌
             root_went = let fit : p + 4 * number_at s 2 ≤ length s = (rw root_is at room) in rw root_is (rw (le-leb _ _ fit) at names_went)
 
-            module _ {x : FirstWalk} (k : seen x ≡ past (expr_at s 200 any_expression (p + 4 * m))) where
-              pub root_refused : {number place : ℕ} → x ≡ Refused number place → seen x ≡ ended (length s) (tree_at s)
+            module _ {x : Result ℕ Refusal} (k : seen x ≡ past (expr_at s 200 any_expression (p + 4 * m))) where
+              pub root_refused : {why : Refusal} → x ≡ Err why → seen x ≡ ended (length s) (tree_at s)
               root_refused d = stopped k end_past d ∙ root_went
 
-              module _ {q : ℕ} (d : x ≡ Past q) where
+              module _ {q : ℕ} (d : x ≡ Ok q) where
                 end_went : end_past q ≡ ended (length s) (tree_at s)
                 end_went = went k end_past d ∙ root_went
 

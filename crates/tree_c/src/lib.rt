@@ -7,16 +7,13 @@ ghost use Rattle.rules.specs.FirstWalk.{tree_at};
 ghost use Rattle.tree.specs.Seen.{ended};
 ghost use Rattle.tree_c.specs.Answer.{number_of};
 
-use tree::FirstWalk;
-
 // The refusal's number, 0 where the tree is accepted.
 #[unsafe(no_mangle)]
 pub extern "C" fn tsilmogar_first_walk(tree: &[u8]) -> u32
     ensures { result ≡ number_of (ended (length tree.now) (tree_at tree.now)) }
 {
-    let walk = tree::first_walk(tree);
-    match walk {
-        FirstWalk::Past(_) => 0,
-        FirstWalk::Refused(number, _) => number,
+    match tree::first_walk(tree) {
+        Ok(_) => 0,
+        Err(e) => e.reason.number(),
     }
 }

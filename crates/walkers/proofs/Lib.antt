@@ -1,1 +1,2 @@
--- The laws stand in joins.
+-- What the one proof of the walkers shares beside the laws of joins.
+mod Beginning

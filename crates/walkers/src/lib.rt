@@ -7,7 +7,7 @@ ghost use Rattle.std.specs.Prelude.{◌≡◌, ℕ, ◌+◌, ◌-◌, ◌<◌, �
 ghost use Rattle.rules.specs.Numbers as rules;
 ghost use Rattle.rules.specs.FirstWalk.{any_expression, expr_at};
 ghost use Rattle.rules.specs.Walk as walk;
-ghost use Rattle.state.specs.Seen.{buffers};
+ghost use Rattle.state.specs.Seen.{contents, SameBuffers};
 ghost use Rattle.state.specs.Walks.{place_of, naming_of, Walks, WalksSpecs};
 ghost use Rattle.law_runs.specs.Run.{Accepted, items_at, binds_at, params_at, heads_at, values_at};
 ghost use Rattle.law_runs.specs.Run.{run_expr, run_items, run_assertions, run_values, run_heads, run_binds, run_params};
@@ -17,11 +17,8 @@ ghost use Rattle.law_joins.specs.Ready.{Ready, There, PlainThere, HeldThere, Mem
 use bytes_read::{mark_at, number_at};
 use bytes_records::{AR, AT, FN, LO, NA, OB, PT, children, constants, offsets, size_of};
 use bytes_skip::after_head;
-use settling::LoopKind;
-use state::{
-    AnalysisStack, Limits, Naming, Place, Specs, Step, Walked, none_kept, specs_to, walked_past,
-    walked_to,
-};
+use settling::Analysis;
+use state::{AnalysisStack, Lent, Limits, Naming, Place, Specs, Walked};
 use step_close::{finish_function, finish_local, finish_object};
 use step_copy::{copy_record, emit_constants};
 use step_emit::emit_head;
@@ -41,25 +38,14 @@ fn first_defaults(tree: &[u8], at: usize, n: u32) -> bool
     requires { (length tree.now ≤ 16777216) × (0 < n → at + 14 ≤ length tree.now) }
     ensures { result ≡ first_defaults tree.now n at }
 {
-    if n == 0 {
-        return false;
-    }
-    if number_at(tree, at + offsets::PA_DEFAULT) == 0 {
-        return false;
-    }
-    true
+    n != 0 && number_at(tree, at + offsets::PA_DEFAULT) != 0
 }
 
 // The expression at a place, with `nest` levels left for it and what stands below it.
 #[cycle(analysis)]
 pub fn analyze(
     tree: &[u8],
-    out: &mut [u8],
-    diagnostics: &mut [u8],
-    locals: &mut [u32],
-    frames: &mut [u32],
-    captures: &mut [u32],
-    references: &mut [u32],
+    lent: &mut Lent<'_>,
     limits: Limits,
     st: AnalysisStack,
     at: usize,
@@ -67,104 +53,24 @@ pub fn analyze(
     naming: Naming,
     here: Place,
 ) -> Walked
-    requires ready { Ready limits (buffers out.old diagnostics.old locals.old frames.old captures.old references.old)
+    requires ready { Ready limits (contents lent.old)
         st tree.now at nest here }
     requires accepted { Accepted (expr_at tree.now nest any_expression at) }
-    ensures { Walks result limits (buffers out.old diagnostics.old locals.old frames.old captures.old references.old)
-        (buffers out.new diagnostics.new locals.new frames.new captures.new references.new) st (λ limits σ. run_expr
+    ensures walks { Walks result limits (contents lent.old)
+        (contents lent.new) st (λ limits σ. run_expr
         tree.now limits nest at (naming_of naming) (place_of here) σ) }
+    ensures same_buffers { SameBuffers lent.old lent.new }
 {
     let mark = mark_at(tree, at);
     if is_leaf(mark) {
-        return on_items(
-            tree,
-            out,
-            diagnostics,
-            locals,
-            frames,
-            captures,
-            references,
-            limits,
-            st,
-            at,
-            nest,
-            1,
-            here,
-        );
+        return on_items(tree, lent, limits, st, at, nest, 1, here);
     }
     match mark {
-        AR => on_array(
-            tree,
-            out,
-            diagnostics,
-            locals,
-            frames,
-            captures,
-            references,
-            limits,
-            st,
-            at,
-            nest,
-            here,
-        ),
-        LO => on_local(
-            tree,
-            out,
-            diagnostics,
-            locals,
-            frames,
-            captures,
-            references,
-            limits,
-            st,
-            at,
-            nest,
-            here,
-        ),
-        FN => on_function(
-            tree,
-            out,
-            diagnostics,
-            locals,
-            frames,
-            captures,
-            references,
-            limits,
-            st,
-            at,
-            nest,
-            naming,
-            here,
-        ),
-        OB => on_object(
-            tree,
-            out,
-            diagnostics,
-            locals,
-            frames,
-            captures,
-            references,
-            limits,
-            st,
-            at,
-            nest,
-            here,
-        ),
-        _ => on_plain(
-            tree,
-            out,
-            diagnostics,
-            locals,
-            frames,
-            captures,
-            references,
-            limits,
-            st,
-            at,
-            nest,
-            mark,
-            here,
-        ),
+        AR => on_array(tree, lent, limits, st, at, nest, here),
+        LO => on_local(tree, lent, limits, st, at, nest, here),
+        FN => on_function(tree, lent, limits, st, at, nest, naming, here),
+        OB => on_object(tree, lent, limits, st, at, nest, here),
+        _ => on_plain(tree, lent, limits, st, at, nest, mark, here),
     }
 }
 
@@ -172,12 +78,7 @@ pub fn analyze(
 #[cycle(analysis)]
 fn on_plain(
     tree: &[u8],
-    out: &mut [u8],
-    diagnostics: &mut [u8],
-    locals: &mut [u32],
-    frames: &mut [u32],
-    captures: &mut [u32],
-    references: &mut [u32],
+    lent: &mut Lent<'_>,
     limits: Limits,
     st: AnalysisStack,
     at: usize,
@@ -185,121 +86,76 @@ fn on_plain(
     mark: u32,
     here: Place,
 ) -> Walked
-    requires ready { Ready limits (buffers out.old diagnostics.old locals.old frames.old captures.old references.old)
+    requires ready { Ready limits (contents lent.old)
         st tree.now at nest here }
     requires plain_there { PlainThere tree.now nest mark at }
-    ensures { (ν : walk.Naming) → Walks result limits (buffers out.old diagnostics.old locals.old frames.old
-        captures.old references.old) (buffers out.new diagnostics.new locals.new frames.new captures.new
-        references.new) st (λ limits σ. run_expr tree.now limits nest at ν (place_of here) σ) }
+    ensures walks { (ν : walk.Naming) → Walks result limits (contents lent.old) (contents lent.new) st (λ limits σ. run_expr tree.now limits nest at ν (place_of here) σ) }
+    ensures same_buffers { SameBuffers lent.old lent.new }
 {
     let n = children(&tree[at..], mark);
     let below = at + size_of(mark);
-    let w = on_items(
-        tree,
-        out,
-        diagnostics,
-        locals,
-        frames,
-        captures,
-        references,
-        limits,
-        st,
-        below,
-        nest - 1,
-        n,
-        here,
-    );
-    let Walked::To(after, next) = w else {
-        return w;
-    };
-    copy_record(tree, out, after, at, next, mark)
+    let (after, next) = on_items(tree, lent, limits, st, below, nest - 1, n, here)?;
+    copy_record(tree, lent.out, after, at, next, mark)
 }
 
 // `AR`: constants in one record, or items in a using frame.
 #[cycle(analysis)]
 fn on_array(
     tree: &[u8],
-    out: &mut [u8],
-    diagnostics: &mut [u8],
-    locals: &mut [u32],
-    frames: &mut [u32],
-    captures: &mut [u32],
-    references: &mut [u32],
+    lent: &mut Lent<'_>,
     limits: Limits,
     st: AnalysisStack,
     at: usize,
     nest: u32,
     here: Place,
 ) -> Walked
-    requires ready { Ready limits (buffers out.old diagnostics.old locals.old frames.old captures.old references.old)
+    requires ready { Ready limits (contents lent.old)
         st tree.now at nest here }
     requires there { There tree.now nest rules.AR at }
-    ensures { (ν : walk.Naming) → Walks result limits (buffers out.old diagnostics.old locals.old frames.old
-        captures.old references.old) (buffers out.new diagnostics.new locals.new frames.new captures.new
-        references.new) st (λ limits σ. run_expr tree.now limits nest at ν (place_of here) σ) }
+    ensures walks { (ν : walk.Naming) → Walks result limits (contents lent.old) (contents lent.new) st (λ limits σ. run_expr tree.now limits nest at ν (place_of here) σ) }
+    ensures same_buffers { SameBuffers lent.old lent.new }
 {
     let n = number_at(tree, at + offsets::AR_COUNT);
     if constants(tree, at + offsets::AR_SIZE, n as usize) {
-        return emit_constants(tree, out, st, at, n as usize);
+        return emit_constants(tree, lent.out, st, at, n as usize);
     }
-    let opened = open_frame(frames, limits, st, at, false);
-    let Step::Ok(inside) = opened else {
-        return walked_to(opened, 0);
-    };
-    let w = on_items(
+    let inside = open_frame(lent.frames, limits, st, at, false)?;
+    let (after, next) = on_items(
         tree,
-        out,
-        diagnostics,
-        locals,
-        frames,
-        captures,
-        references,
+        lent,
         limits,
         inside,
         at + offsets::AR_SIZE,
         nest - 1,
         n as usize,
         here,
-    );
-    let Walked::To(after, next) = w else {
-        return w;
-    };
-    close_array(out, frames, captures, after, at, n, next)
+    )?;
+    let frames = &mut *lent.frames;
+    close_array(lent.out, frames, lent.captures, after, at, n, next)
 }
 
 // `LO`: binds and a body; with no binds it is its body.
 #[cycle(analysis)]
 fn on_local(
     tree: &[u8],
-    out: &mut [u8],
-    diagnostics: &mut [u8],
-    locals: &mut [u32],
-    frames: &mut [u32],
-    captures: &mut [u32],
-    references: &mut [u32],
+    lent: &mut Lent<'_>,
     limits: Limits,
     st: AnalysisStack,
     at: usize,
     nest: u32,
     here: Place,
 ) -> Walked
-    requires ready { Ready limits (buffers out.old diagnostics.old locals.old frames.old captures.old references.old)
+    requires ready { Ready limits (contents lent.old)
         st tree.now at nest here }
     requires there { There tree.now nest rules.LO at }
-    ensures { (ν : walk.Naming) → Walks result limits (buffers out.old diagnostics.old locals.old frames.old
-        captures.old references.old) (buffers out.new diagnostics.new locals.new frames.new captures.new
-        references.new) st (λ limits σ. run_expr tree.now limits nest at ν (place_of here) σ) }
+    ensures walks { (ν : walk.Naming) → Walks result limits (contents lent.old) (contents lent.new) st (λ limits σ. run_expr tree.now limits nest at ν (place_of here) σ) }
+    ensures same_buffers { SameBuffers lent.old lent.new }
 {
     let n = number_at(tree, at + offsets::LO_COUNT);
     if n == 0 {
         return analyze(
             tree,
-            out,
-            diagnostics,
-            locals,
-            frames,
-            captures,
-            references,
+            lent,
             limits,
             st,
             at + offsets::LO_SIZE,
@@ -309,28 +165,20 @@ fn on_local(
         );
     }
     let before = st.references;
-    let begun = begin_local(
+    let (inside, _) = begin_local(
         tree,
-        diagnostics,
-        locals,
-        frames,
+        lent.diagnostics,
+        lent.locals,
+        lent.frames,
         limits,
         st,
         at,
         n,
         here.depth,
-    );
-    let Walked::To(inside, _) = begun else {
-        return begun;
-    };
-    let specs = on_binds(
+    )?;
+    let (known, body, kept) = on_binds(
         tree,
-        out,
-        diagnostics,
-        locals,
-        frames,
-        captures,
-        references,
+        lent,
         limits,
         inside,
         at + offsets::LO_SIZE,
@@ -338,35 +186,27 @@ fn on_local(
         n,
         0,
         here,
-    );
-    let Specs::To(known, body, kept) = specs else {
-        return walked_past(specs);
-    };
-    let settled = settle_frame(locals, references, known, kept, before, LoopKind::Analysis);
-    let w = analyze(
+    )?;
+    let references = &mut *lent.references;
+    let settled = settle_frame::<Analysis>(lent.locals, references, known, kept, before);
+    let (after, next) = analyze(
         tree,
-        out,
-        diagnostics,
-        locals,
-        frames,
-        captures,
-        references,
+        lent,
         limits,
         settled,
         body,
         nest - 1,
         Naming::Unnamed,
         deeper(here),
-    );
-    let Walked::To(after, next) = w else {
-        return w;
-    };
+    )?;
+    let frames = &mut *lent.frames;
+    let references = &mut *lent.references;
     finish_local(
-        out,
-        diagnostics,
-        locals,
+        lent.out,
+        lent.diagnostics,
+        lent.locals,
         frames,
-        captures,
+        lent.captures,
         references,
         limits,
         after,
@@ -381,12 +221,7 @@ fn on_local(
 #[cycle(analysis)]
 fn on_function(
     tree: &[u8],
-    out: &mut [u8],
-    diagnostics: &mut [u8],
-    locals: &mut [u32],
-    frames: &mut [u32],
-    captures: &mut [u32],
-    references: &mut [u32],
+    lent: &mut Lent<'_>,
     limits: Limits,
     st: AnalysisStack,
     at: usize,
@@ -394,80 +229,65 @@ fn on_function(
     naming: Naming,
     here: Place,
 ) -> Walked
-    requires ready { Ready limits (buffers out.old diagnostics.old locals.old frames.old captures.old references.old)
+    requires ready { Ready limits (contents lent.old)
         st tree.now at nest here }
     requires there { There tree.now nest rules.FN at }
-    ensures { Walks result limits (buffers out.old diagnostics.old locals.old frames.old captures.old references.old)
-        (buffers out.new diagnostics.new locals.new frames.new captures.new references.new) st (λ limits σ. run_expr
+    ensures walks { Walks result limits (contents lent.old)
+        (contents lent.new) st (λ limits σ. run_expr
         tree.now limits nest at (naming_of naming) (place_of here) σ) }
+    ensures same_buffers { SameBuffers lent.old lent.new }
 {
     let n = number_at(tree, at + offsets::FN_COUNT);
     let before = st.references;
-    let begun = begin_function(
+    let (inside, _) = begin_function(
         tree,
-        diagnostics,
-        locals,
-        frames,
+        lent.diagnostics,
+        lent.locals,
+        lent.frames,
         limits,
         st,
         at,
         n,
         here.depth,
-    );
-    let Walked::To(inside, _) = begun else {
-        return begun;
-    };
-    let specs = on_params(
+    )?;
+    let (known, body, kept) = on_params(
         tree,
-        out,
-        diagnostics,
-        locals,
-        frames,
-        captures,
-        references,
+        lent,
         limits,
         inside,
         at + offsets::FN_SIZE,
         nest - 1,
         n,
         here,
-    );
-    let Specs::To(known, body, kept) = specs else {
-        return walked_past(specs);
-    };
-    let settled = settle_frame(locals, references, known, kept, before, LoopKind::Analysis);
-    let w = analyze(
+    )?;
+    let references = &mut *lent.references;
+    let settled = settle_frame::<Analysis>(lent.locals, references, known, kept, before);
+    let (after, next) = analyze(
         tree,
-        out,
-        diagnostics,
-        locals,
-        frames,
-        captures,
-        references,
+        lent,
         limits,
         settled,
         body,
         nest - 1,
         Naming::Unnamed,
         deeper(here),
-    );
-    let Walked::To(after, next) = w else {
-        return w;
-    };
+    )?;
     let defaults = first_defaults(tree, at + offsets::FN_SIZE, n);
     let function = FunctionEnd {
         span: number_at(tree, at + offsets::FN_SPAN),
         start: st.out,
         body_start: known.out,
-        kept: kept,
-        defaults: defaults,
+        kept,
+        defaults,
     };
+    let frames = &mut *lent.frames;
+    let references = &mut *lent.references;
     finish_function(
-        out,
-        diagnostics,
-        locals,
+        lent.out,
+        lent.diagnostics,
+        lent.locals,
         frames,
-        captures,
+        lent.captures,
         references,
         limits,
         after,
@@ -483,59 +303,31 @@ fn on_function(
 #[cycle(analysis)]
 fn on_object(
     tree: &[u8],
-    out: &mut [u8],
-    diagnostics: &mut [u8],
-    locals: &mut [u32],
-    frames: &mut [u32],
-    captures: &mut [u32],
-    references: &mut [u32],
+    lent: &mut Lent<'_>,
     limits: Limits,
     st: AnalysisStack,
     at: usize,
     nest: u32,
     here: Place,
 ) -> Walked
-    requires ready { Ready limits (buffers out.old diagnostics.old locals.old frames.old captures.old references.old)
+    requires ready { Ready limits (contents lent.old)
         st tree.now at nest here }
     requires there { There tree.now nest rules.OB at }
-    ensures { (ν : walk.Naming) → Walks result limits (buffers out.old diagnostics.old locals.old frames.old
-        captures.old references.old) (buffers out.new diagnostics.new locals.new frames.new captures.new
-        references.new) st (λ limits σ. run_expr tree.now limits nest at ν (place_of here) σ) }
+    ensures walks { (ν : walk.Naming) → Walks result limits (contents lent.old) (contents lent.new) st (λ limits σ. run_expr tree.now limits nest at ν (place_of here) σ) }
+    ensures same_buffers { SameBuffers lent.old lent.new }
 {
     let fields = number_at(tree, at + offsets::OB_FIELDS);
-    let heads = on_heads(
+    let (outside, binds) = on_heads(
         tree,
-        out,
-        diagnostics,
-        locals,
-        frames,
-        captures,
-        references,
+        lent,
         limits,
         st,
         at + offsets::OB_SIZE,
         nest - 1,
         fields,
         here,
-    );
-    let Walked::To(outside, binds) = heads else {
-        return heads;
-    };
-    on_members(
-        tree,
-        out,
-        diagnostics,
-        locals,
-        frames,
-        captures,
-        references,
-        limits,
-        outside,
-        binds,
-        nest,
-        at,
-        here,
-    )
+    )?;
+    on_members(tree, lent, limits, outside, binds, nest, at, here)
 }
 
 // What stands after the heads of the object at `object`: its binds, which stand here, assertions and values. The state is ready for a place
@@ -543,12 +335,7 @@ fn on_object(
 #[cycle(analysis)]
 fn on_members(
     tree: &[u8],
-    out: &mut [u8],
-    diagnostics: &mut [u8],
-    locals: &mut [u32],
-    frames: &mut [u32],
-    captures: &mut [u32],
-    references: &mut [u32],
+    lent: &mut Lent<'_>,
     limits: Limits,
     st: AnalysisStack,
     at: usize,
@@ -556,39 +343,32 @@ fn on_members(
     object: usize,
     here: Place,
 ) -> Walked
-    requires ready { Ready limits (buffers out.old diagnostics.old locals.old frames.old captures.old references.old)
+    requires ready { Ready limits (contents lent.old)
         st tree.now (at - 14) nest here }
     requires members_there { MembersThere tree.now nest at object }
-    ensures { Walks result limits (buffers out.old diagnostics.old locals.old frames.old captures.old references.old)
-        (buffers out.new diagnostics.new locals.new frames.new captures.new references.new) st (λ limits σ.
+    ensures walks { Walks result limits (contents lent.old)
+        (contents lent.new) st (λ limits σ.
         members_steps tree.now limits nest at object (place_of here) σ) }
+    ensures same_buffers { SameBuffers lent.old lent.new }
 {
     let n = number_at(tree, object + offsets::OB_BINDS);
     let before = st.references;
     let inside = in_object(here, st.locals);
-    let begun = begin_object(
+    let (opened, _) = begin_object(
         tree,
-        diagnostics,
-        locals,
-        frames,
+        lent.diagnostics,
+        lent.locals,
+        lent.frames,
         limits,
         st,
         object,
         at,
         n,
         here,
-    );
-    let Walked::To(opened, _) = begun else {
-        return begun;
-    };
-    let specs = on_binds(
+    )?;
+    let (known, assertions, kept) = on_binds(
         tree,
-        out,
-        diagnostics,
-        locals,
-        frames,
-        captures,
-        references,
+        lent,
         limits,
         opened,
         at,
@@ -596,45 +376,37 @@ fn on_members(
         n,
         1,
         inside,
-    );
-    let Specs::To(known, assertions, kept) = specs else {
-        return walked_past(specs);
-    };
-    let settled = settle_frame(locals, references, known, kept, before, LoopKind::Analysis);
-    let w = on_fields(
+    )?;
+    let references = &mut *lent.references;
+    let settled = settle_frame::<Analysis>(lent.locals, references, known, kept, before);
+    let (after, next) = on_fields(
         tree,
-        out,
-        diagnostics,
-        locals,
-        frames,
-        captures,
-        references,
+        lent,
         limits,
         settled,
         assertions,
         nest - 1,
         object,
         deeper(inside),
-    );
-    let Walked::To(after, next) = w else {
-        return w;
-    };
+    )?;
     let fields = number_at(tree, object + offsets::OB_FIELDS);
     let end = ObjectEnd {
         outermost: !here.in_object,
         self_used: st.self_used,
         super_used: st.super_used,
-        kept: kept,
+        kept,
         assertions: number_at(tree, object + offsets::OB_ASSERTIONS),
         values: fields,
         is_static: is_static(tree, object + offsets::OB_SIZE, fields),
     };
+    let frames = &mut *lent.frames;
+    let references = &mut *lent.references;
     finish_object(
-        out,
-        diagnostics,
-        locals,
+        lent.out,
+        lent.diagnostics,
+        lent.locals,
         frames,
-        captures,
+        lent.captures,
         references,
         limits,
         after,
@@ -649,12 +421,7 @@ fn on_members(
 #[cycle(analysis)]
 fn on_fields(
     tree: &[u8],
-    out: &mut [u8],
-    diagnostics: &mut [u8],
-    locals: &mut [u32],
-    frames: &mut [u32],
-    captures: &mut [u32],
-    references: &mut [u32],
+    lent: &mut Lent<'_>,
     limits: Limits,
     st: AnalysisStack,
     at: usize,
@@ -662,39 +429,27 @@ fn on_fields(
     object: usize,
     here: Place,
 ) -> Walked
-    requires ready { Ready limits (buffers out.old diagnostics.old locals.old frames.old captures.old references.old)
+    requires ready { Ready limits (contents lent.old)
         st tree.now at nest here }
     requires fields_there { FieldsThere tree.now nest object at }
-    ensures { Walks result limits (buffers out.old diagnostics.old locals.old frames.old captures.old references.old)
-        (buffers out.new diagnostics.new locals.new frames.new captures.new references.new) st (λ limits σ.
+    ensures walks { Walks result limits (contents lent.old)
+        (contents lent.new) st (λ limits σ.
         fields_steps tree.now limits nest object at (place_of here) σ) }
+    ensures same_buffers { SameBuffers lent.old lent.new }
 {
-    let w = on_assertions(
+    let (after, values) = on_assertions(
         tree,
-        out,
-        diagnostics,
-        locals,
-        frames,
-        captures,
-        references,
+        lent,
         limits,
         st,
         at,
         nest,
         number_at(tree, object + offsets::OB_ASSERTIONS),
         here,
-    );
-    let Walked::To(after, values) = w else {
-        return w;
-    };
+    )?;
     on_values(
         tree,
-        out,
-        diagnostics,
-        locals,
-        frames,
-        captures,
-        references,
+        lent,
         limits,
         after,
         values,
@@ -709,57 +464,25 @@ fn on_fields(
 #[cycle(analysis)]
 fn on_item(
     tree: &[u8],
-    out: &mut [u8],
-    diagnostics: &mut [u8],
-    locals: &mut [u32],
-    frames: &mut [u32],
-    captures: &mut [u32],
-    references: &mut [u32],
+    lent: &mut Lent<'_>,
     limits: Limits,
     st: AnalysisStack,
     at: usize,
     nest: u32,
     here: Place,
 ) -> Walked
-    requires ready { Ready limits (buffers out.old diagnostics.old locals.old frames.old captures.old references.old)
+    requires ready { Ready limits (contents lent.old)
         st tree.now at nest here }
     requires accepted { Accepted (items_at tree.now nest 1 at) }
-    ensures { Walks result limits (buffers out.old diagnostics.old locals.old frames.old captures.old references.old)
-        (buffers out.new diagnostics.new locals.new frames.new captures.new references.new) st (λ limits σ. run_items
+    ensures walks { Walks result limits (contents lent.old)
+        (contents lent.new) st (λ limits σ. run_items
         tree.now limits nest 1 at (place_of here) σ) }
+    ensures same_buffers { SameBuffers lent.old lent.new }
 {
     let mark = mark_at(tree, at);
     match mark {
-        NA | PT | AT => on_held(
-            tree,
-            out,
-            diagnostics,
-            locals,
-            frames,
-            captures,
-            references,
-            limits,
-            st,
-            at,
-            nest,
-            mark,
-            here,
-        ),
-        _ => analyze(
-            tree,
-            out,
-            diagnostics,
-            locals,
-            frames,
-            captures,
-            references,
-            limits,
-            st,
-            at,
-            nest,
-            Naming::Unnamed,
-            here,
-        ),
+        NA | PT | AT => on_held(tree, lent, limits, st, at, nest, mark, here),
+        _ => analyze(tree, lent, limits, st, at, nest, Naming::Unnamed, here),
     }
 }
 
@@ -767,12 +490,7 @@ fn on_item(
 #[cycle(analysis)]
 fn on_held(
     tree: &[u8],
-    out: &mut [u8],
-    diagnostics: &mut [u8],
-    locals: &mut [u32],
-    frames: &mut [u32],
-    captures: &mut [u32],
-    references: &mut [u32],
+    lent: &mut Lent<'_>,
     limits: Limits,
     st: AnalysisStack,
     at: usize,
@@ -780,66 +498,37 @@ fn on_held(
     mark: u32,
     here: Place,
 ) -> Walked
-    requires ready { Ready limits (buffers out.old diagnostics.old locals.old frames.old captures.old references.old)
+    requires ready { Ready limits (contents lent.old)
         st tree.now at nest here }
     requires held_there { HeldThere tree.now nest mark at }
-    ensures { Walks result limits (buffers out.old diagnostics.old locals.old frames.old captures.old references.old)
-        (buffers out.new diagnostics.new locals.new frames.new captures.new references.new) st (λ limits σ. run_items
+    ensures walks { Walks result limits (contents lent.old)
+        (contents lent.new) st (λ limits σ. run_items
         tree.now limits nest 1 at (place_of here) σ) }
+    ensures same_buffers { SameBuffers lent.old lent.new }
 {
     let n = children(&tree[at..], mark);
-    let first = analyze(
+    let (after, next) = analyze(
         tree,
-        out,
-        diagnostics,
-        locals,
-        frames,
-        captures,
-        references,
+        lent,
         limits,
         st,
         at + offsets::HELD_SIZE,
         nest,
         Naming::Unnamed,
         here,
-    );
-    let Walked::To(after, next) = first else {
-        return first;
-    };
+    )?;
     if n == 1 {
-        return copy_record(tree, out, after, at, next, mark);
+        return copy_record(tree, lent.out, after, at, next, mark);
     }
-    let second = analyze(
-        tree,
-        out,
-        diagnostics,
-        locals,
-        frames,
-        captures,
-        references,
-        limits,
-        after,
-        next,
-        nest,
-        Naming::Unnamed,
-        here,
-    );
-    let Walked::To(after, next) = second else {
-        return second;
-    };
-    copy_record(tree, out, after, at, next, mark)
+    let (after, next) = analyze(tree, lent, limits, after, next, nest, Naming::Unnamed, here)?;
+    copy_record(tree, lent.out, after, at, next, mark)
 }
 
 // n of them.
 #[cycle(analysis)]
 fn on_items(
     tree: &[u8],
-    out: &mut [u8],
-    diagnostics: &mut [u8],
-    locals: &mut [u32],
-    frames: &mut [u32],
-    captures: &mut [u32],
-    references: &mut [u32],
+    lent: &mut Lent<'_>,
     limits: Limits,
     st: AnalysisStack,
     at: usize,
@@ -847,74 +536,33 @@ fn on_items(
     n: usize,
     here: Place,
 ) -> Walked
-    requires ready { Ready limits (buffers out.old diagnostics.old locals.old frames.old captures.old references.old)
+    requires ready { Ready limits (contents lent.old)
         st tree.now at nest here }
     requires accepted { Accepted (items_at tree.now nest n at) }
-    ensures { Walks result limits (buffers out.old diagnostics.old locals.old frames.old captures.old references.old)
-        (buffers out.new diagnostics.new locals.new frames.new captures.new references.new) st (λ limits σ. run_items
+    ensures walks { Walks result limits (contents lent.old)
+        (contents lent.new) st (λ limits σ. run_items
         tree.now limits nest n at (place_of here) σ) }
+    ensures same_buffers { SameBuffers lent.old lent.new }
 {
     let mut state = st;
     let mut p = at;
-    let mut i: usize = 0;
-    while i < n {
+    for _ in 0..n {
         let mark = mark_at(tree, p);
-        let w = if is_leaf(mark) {
-            on_leaf(
-                tree,
-                out,
-                diagnostics,
-                locals,
-                frames,
-                captures,
-                references,
-                limits,
-                state,
-                p,
-                nest,
-                mark,
-                here,
-            )
+        let item = if is_leaf(mark) {
+            on_leaf(tree, lent, limits, state, p, nest, mark, here)
         } else {
-            on_item(
-                tree,
-                out,
-                diagnostics,
-                locals,
-                frames,
-                captures,
-                references,
-                limits,
-                state,
-                p,
-                nest,
-                here,
-            )
+            on_item(tree, lent, limits, state, p, nest, here)
         };
-        match w {
-            Walked::To(after, next) => {
-                state = after;
-                p = next;
-            }
-            Walked::Refused(number, place) => {
-                return Walked::Refused(number, place);
-            }
-        }
-        i += 1;
+        (state, p) = item?;
     }
-    Walked::To(state, p)
+    Ok((state, p))
 }
 
 // An object's assertions, in one using frame if there are any.
 #[cycle(analysis)]
 fn on_assertions(
     tree: &[u8],
-    out: &mut [u8],
-    diagnostics: &mut [u8],
-    locals: &mut [u32],
-    frames: &mut [u32],
-    captures: &mut [u32],
-    references: &mut [u32],
+    lent: &mut Lent<'_>,
     limits: Limits,
     st: AnalysisStack,
     at: usize,
@@ -922,98 +570,63 @@ fn on_assertions(
     n: u32,
     here: Place,
 ) -> Walked
-    requires ready { Ready limits (buffers out.old diagnostics.old locals.old frames.old captures.old references.old)
+    requires ready { Ready limits (contents lent.old)
         st tree.now at nest here }
     requires accepted { Accepted (items_at tree.now nest n at) }
-    ensures { Walks result limits (buffers out.old diagnostics.old locals.old frames.old captures.old references.old)
-        (buffers out.new diagnostics.new locals.new frames.new captures.new references.new) st (λ limits σ.
+    ensures walks { Walks result limits (contents lent.old)
+        (contents lent.new) st (λ limits σ.
         run_assertions tree.now limits nest n at (place_of here) σ) }
+    ensures same_buffers { SameBuffers lent.old lent.new }
 {
     if n == 0 {
-        return Walked::To(st, at);
+        return Ok((st, at));
     }
-    let opened = open_frame(frames, limits, st, at, false);
-    let Step::Ok(inside) = opened else {
-        return walked_to(opened, 0);
-    };
-    let w = on_items(
-        tree,
-        out,
-        diagnostics,
-        locals,
-        frames,
-        captures,
-        references,
-        limits,
-        inside,
-        at,
-        nest,
-        n as usize,
-        here,
-    );
-    let Walked::To(after, next) = w else {
-        return w;
-    };
-    close_assertions(out, frames, captures, after, at, next)
+    let inside = open_frame(lent.frames, limits, st, at, false)?;
+    let (after, next) = on_items(tree, lent, limits, inside, at, nest, n as usize, here)?;
+    let frames = &mut *lent.frames;
+    close_assertions(lent.out, frames, lent.captures, after, at, next)
 }
 
 // A field's head, with its name if that is computed.
 #[cycle(analysis)]
 fn on_head(
     tree: &[u8],
-    out: &mut [u8],
-    diagnostics: &mut [u8],
-    locals: &mut [u32],
-    frames: &mut [u32],
-    captures: &mut [u32],
-    references: &mut [u32],
+    lent: &mut Lent<'_>,
     limits: Limits,
     st: AnalysisStack,
     at: usize,
     nest: u32,
     here: Place,
 ) -> Walked
-    requires ready { Ready limits (buffers out.old diagnostics.old locals.old frames.old captures.old references.old)
+    requires ready { Ready limits (contents lent.old)
         st tree.now at nest here }
     requires accepted { Accepted (heads_at tree.now nest 1 at) }
-    ensures { Walks result limits (buffers out.old diagnostics.old locals.old frames.old captures.old references.old)
-        (buffers out.new diagnostics.new locals.new frames.new captures.new references.new) st (λ limits σ. run_heads
+    ensures walks { Walks result limits (contents lent.old)
+        (contents lent.new) st (λ limits σ. run_heads
         tree.now limits nest 1 at (place_of here) σ) }
+    ensures same_buffers { SameBuffers lent.old lent.new }
 {
     if number_at(tree, at + offsets::FH_KIND) == 0 {
-        return emit_head(tree, out, st, at, at + offsets::FH_SIZE);
+        return emit_head(tree, lent.out, st, at, at + offsets::FH_SIZE);
     }
-    let w = analyze(
+    let (after, next) = analyze(
         tree,
-        out,
-        diagnostics,
-        locals,
-        frames,
-        captures,
-        references,
+        lent,
         limits,
         st,
         at + offsets::FH_SIZE,
         nest,
         Naming::Unnamed,
         here,
-    );
-    let Walked::To(after, next) = w else {
-        return w;
-    };
-    emit_head(tree, out, after, at, next)
+    )?;
+    emit_head(tree, lent.out, after, at, next)
 }
 
 // n heads.
 #[cycle(analysis)]
 fn on_heads(
     tree: &[u8],
-    out: &mut [u8],
-    diagnostics: &mut [u8],
-    locals: &mut [u32],
-    frames: &mut [u32],
-    captures: &mut [u32],
-    references: &mut [u32],
+    lent: &mut Lent<'_>,
     limits: Limits,
     st: AnalysisStack,
     at: usize,
@@ -1021,55 +634,27 @@ fn on_heads(
     n: u32,
     here: Place,
 ) -> Walked
-    requires ready { Ready limits (buffers out.old diagnostics.old locals.old frames.old captures.old references.old)
+    requires ready { Ready limits (contents lent.old)
         st tree.now at nest here }
     requires accepted { Accepted (heads_at tree.now nest n at) }
-    ensures { Walks result limits (buffers out.old diagnostics.old locals.old frames.old captures.old references.old)
-        (buffers out.new diagnostics.new locals.new frames.new captures.new references.new) st (λ limits σ. run_heads
+    ensures walks { Walks result limits (contents lent.old)
+        (contents lent.new) st (λ limits σ. run_heads
         tree.now limits nest n at (place_of here) σ) }
+    ensures same_buffers { SameBuffers lent.old lent.new }
 {
     let mut state = st;
     let mut p = at;
-    let mut i: u32 = 0;
-    while i < n {
-        let w = on_head(
-            tree,
-            out,
-            diagnostics,
-            locals,
-            frames,
-            captures,
-            references,
-            limits,
-            state,
-            p,
-            nest,
-            here,
-        );
-        match w {
-            Walked::To(after, next) => {
-                state = after;
-                p = next;
-            }
-            Walked::Refused(number, place) => {
-                return Walked::Refused(number, place);
-            }
-        }
-        i += 1;
+    for _ in 0..n {
+        (state, p) = on_head(tree, lent, limits, state, p, nest, here)?;
     }
-    Walked::To(state, p)
+    Ok((state, p))
 }
 
 // The value of the field whose head stands at `head`, in a using frame.
 #[cycle(analysis)]
 fn on_value(
     tree: &[u8],
-    out: &mut [u8],
-    diagnostics: &mut [u8],
-    locals: &mut [u32],
-    frames: &mut [u32],
-    captures: &mut [u32],
-    references: &mut [u32],
+    lent: &mut Lent<'_>,
     limits: Limits,
     st: AnalysisStack,
     at: usize,
@@ -1077,48 +662,34 @@ fn on_value(
     head: usize,
     here: Place,
 ) -> Walked
-    requires ready { Ready limits (buffers out.old diagnostics.old locals.old frames.old captures.old references.old)
+    requires ready { Ready limits (contents lent.old)
         st tree.now at nest here }
     requires accepted { Accepted (values_at tree.now nest 1 head at) }
-    ensures { Walks result limits (buffers out.old diagnostics.old locals.old frames.old captures.old references.old)
-        (buffers out.new diagnostics.new locals.new frames.new captures.new references.new) st (λ limits σ. run_values
+    ensures walks { Walks result limits (contents lent.old)
+        (contents lent.new) st (λ limits σ. run_values
         tree.now limits nest 1 head at (place_of here) σ) }
+    ensures same_buffers { SameBuffers lent.old lent.new }
 {
-    let opened = open_frame(frames, limits, st, at, false);
-    let Step::Ok(inside) = opened else {
-        return walked_to(opened, 0);
-    };
-    let w = analyze(
+    let inside = open_frame(lent.frames, limits, st, at, false)?;
+    let (after, next) = analyze(
         tree,
-        out,
-        diagnostics,
-        locals,
-        frames,
-        captures,
-        references,
+        lent,
         limits,
         inside,
         at,
         nest,
         head_naming(tree, head),
         here,
-    );
-    let Walked::To(after, next) = w else {
-        return w;
-    };
-    close_value(out, frames, captures, after, at, next)
+    )?;
+    let frames = &mut *lent.frames;
+    close_value(lent.out, frames, lent.captures, after, at, next)
 }
 
 // The values of n fields, whose heads stand from `heads` on.
 #[cycle(analysis)]
 fn on_values(
     tree: &[u8],
-    out: &mut [u8],
-    diagnostics: &mut [u8],
-    locals: &mut [u32],
-    frames: &mut [u32],
-    captures: &mut [u32],
-    references: &mut [u32],
+    lent: &mut Lent<'_>,
     limits: Limits,
     st: AnalysisStack,
     at: usize,
@@ -1127,58 +698,29 @@ fn on_values(
     heads: usize,
     here: Place,
 ) -> Walked
-    requires ready { Ready limits (buffers out.old diagnostics.old locals.old frames.old captures.old references.old)
+    requires ready { Ready limits (contents lent.old)
         st tree.now at nest here }
     requires accepted { Accepted (values_at tree.now nest n heads at) }
-    ensures { Walks result limits (buffers out.old diagnostics.old locals.old frames.old captures.old references.old)
-        (buffers out.new diagnostics.new locals.new frames.new captures.new references.new) st (λ limits σ. run_values
+    ensures walks { Walks result limits (contents lent.old)
+        (contents lent.new) st (λ limits σ. run_values
         tree.now limits nest n heads at (place_of here) σ) }
+    ensures same_buffers { SameBuffers lent.old lent.new }
 {
     let mut state = st;
     let mut p = at;
     let mut head = heads;
-    let mut i: u32 = 0;
-    while i < n {
-        let w = on_value(
-            tree,
-            out,
-            diagnostics,
-            locals,
-            frames,
-            captures,
-            references,
-            limits,
-            state,
-            p,
-            nest,
-            head,
-            here,
-        );
-        match w {
-            Walked::To(after, next) => {
-                state = after;
-                p = next;
-            }
-            Walked::Refused(number, place) => {
-                return Walked::Refused(number, place);
-            }
-        }
+    for _ in 0..n {
+        (state, p) = on_value(tree, lent, limits, state, p, nest, head, here)?;
         head = after_head(tree, head);
-        i += 1;
     }
-    Walked::To(state, p)
+    Ok((state, p))
 }
 
 // A bind, of which `kept` of its frame were kept before: its value in a using frame, then its record if it is kept.
 #[cycle(analysis)]
 fn on_bind(
     tree: &[u8],
-    out: &mut [u8],
-    diagnostics: &mut [u8],
-    locals: &mut [u32],
-    frames: &mut [u32],
-    captures: &mut [u32],
-    references: &mut [u32],
+    lent: &mut Lent<'_>,
     limits: Limits,
     st: AnalysisStack,
     at: usize,
@@ -1187,41 +729,31 @@ fn on_bind(
     kept: u32,
     here: Place,
 ) -> Specs
-    requires ready { Ready limits (buffers out.old diagnostics.old locals.old frames.old captures.old references.old)
+    requires ready { Ready limits (contents lent.old)
         st tree.now at nest here }
     requires accepted { Accepted (binds_at tree.now nest 1 at) × (kept ≤ 16777216) × (base ≤ 1) }
-    ensures { WalksSpecs result limits (buffers out.old diagnostics.old locals.old frames.old captures.old
-        references.old) (buffers out.new diagnostics.new locals.new frames.new captures.new references.new) st (λ
+    ensures walks { WalksSpecs result limits (contents lent.old) (contents lent.new) st (λ
         limits σ. run_binds tree.now limits nest 1 at base kept (place_of here) σ) }
+    ensures same_buffers { SameBuffers lent.old lent.new }
 {
-    let opened = open_value(frames, limits, st, at);
-    let Step::Ok(inside) = opened else {
-        return specs_to(opened, 0, 0);
-    };
-    let w = analyze(
+    let inside = open_value(lent.frames, limits, st, at)?;
+    let (after, next) = analyze(
         tree,
-        out,
-        diagnostics,
-        locals,
-        frames,
-        captures,
-        references,
+        lent,
         limits,
         inside,
         at + offsets::BIND_SIZE,
         nest,
         bind_naming(tree, at),
         here,
-    );
-    let Walked::To(after, next) = w else {
-        return none_kept(w);
-    };
+    )?;
+    let frames = &mut *lent.frames;
     close_spec(
-        out,
-        locals,
-        references,
+        lent.out,
+        lent.locals,
+        lent.references,
         frames,
-        captures,
+        lent.captures,
         limits,
         after,
         at,
@@ -1238,12 +770,7 @@ fn on_bind(
 #[cycle(analysis)]
 fn on_binds(
     tree: &[u8],
-    out: &mut [u8],
-    diagnostics: &mut [u8],
-    locals: &mut [u32],
-    frames: &mut [u32],
-    captures: &mut [u32],
-    references: &mut [u32],
+    lent: &mut Lent<'_>,
     limits: Limits,
     st: AnalysisStack,
     at: usize,
@@ -1252,59 +779,27 @@ fn on_binds(
     base: u32,
     here: Place,
 ) -> Specs
-    requires ready { Ready limits (buffers out.old diagnostics.old locals.old frames.old captures.old references.old)
+    requires ready { Ready limits (contents lent.old)
         st tree.now at nest here }
     requires accepted { Accepted (binds_at tree.now nest n at) × (base ≤ 1) }
-    ensures { WalksSpecs result limits (buffers out.old diagnostics.old locals.old frames.old captures.old
-        references.old) (buffers out.new diagnostics.new locals.new frames.new captures.new references.new) st (λ
+    ensures walks { WalksSpecs result limits (contents lent.old) (contents lent.new) st (λ
         limits σ. run_binds tree.now limits nest n at base 0 (place_of here) σ) }
+    ensures same_buffers { SameBuffers lent.old lent.new }
 {
     let mut state = st;
     let mut p = at;
-    let mut kept: u32 = 0;
-    let mut i: u32 = 0;
-    while i < n {
-        let w = on_bind(
-            tree,
-            out,
-            diagnostics,
-            locals,
-            frames,
-            captures,
-            references,
-            limits,
-            state,
-            p,
-            nest,
-            base,
-            kept,
-            here,
-        );
-        match w {
-            Specs::To(after, next, count) => {
-                state = after;
-                p = next;
-                kept = count;
-            }
-            Specs::Refused(number, place) => {
-                return Specs::Refused(number, place);
-            }
-        }
-        i += 1;
+    let mut kept: u32 = 0; // none before the first bind
+    for _ in 0..n {
+        (state, p, kept) = on_bind(tree, lent, limits, state, p, nest, base, kept, here)?;
     }
-    Specs::To(state, p, kept)
+    Ok((state, p, kept))
 }
 
 // A parameter, of which `kept` of its frame were kept before.
 #[cycle(analysis)]
 fn on_param(
     tree: &[u8],
-    out: &mut [u8],
-    diagnostics: &mut [u8],
-    locals: &mut [u32],
-    frames: &mut [u32],
-    captures: &mut [u32],
-    references: &mut [u32],
+    lent: &mut Lent<'_>,
     limits: Limits,
     st: AnalysisStack,
     at: usize,
@@ -1312,21 +807,24 @@ fn on_param(
     kept: u32,
     here: Place,
 ) -> Specs
-    requires ready { Ready limits (buffers out.old diagnostics.old locals.old frames.old captures.old references.old)
+    requires ready { Ready limits (contents lent.old)
         st tree.now at nest here }
     requires accepted { Accepted (params_at tree.now nest 1 at) × (kept ≤ 16777216) }
-    ensures { WalksSpecs result limits (buffers out.old diagnostics.old locals.old frames.old captures.old
-        references.old) (buffers out.new diagnostics.new locals.new frames.new captures.new references.new) st (λ
+    ensures walks { WalksSpecs result limits (contents lent.old) (contents lent.new) st (λ
         limits σ. run_params tree.now limits nest 1 at kept (place_of here) σ) }
+    ensures same_buffers { SameBuffers lent.old lent.new }
 {
     let name = number_at(tree, at + offsets::PA_NAME);
     if number_at(tree, at + offsets::PA_DEFAULT) == 0 {
-        let mut fresh = st;
-        fresh.taint = AnalysisResult::no_dependence();
+        let fresh = AnalysisStack {
+            taint: AnalysisResult::no_dependence(),
+            ..st
+        };
+        let frames = &mut *lent.frames;
         return record_spec_init(
-            out,
-            locals,
-            references,
+            lent.out,
+            lent.locals,
+            lent.references,
             frames,
             limits,
             fresh,
@@ -1339,34 +837,24 @@ fn on_param(
             at + offsets::PA_SIZE,
         );
     }
-    let opened = open_value(frames, limits, st, at);
-    let Step::Ok(inside) = opened else {
-        return specs_to(opened, 0, 0);
-    };
-    let w = analyze(
+    let inside = open_value(lent.frames, limits, st, at)?;
+    let (after, next) = analyze(
         tree,
-        out,
-        diagnostics,
-        locals,
-        frames,
-        captures,
-        references,
+        lent,
         limits,
         inside,
         at + offsets::PA_SIZE,
         nest,
         Naming::Unnamed,
         here,
-    );
-    let Walked::To(after, next) = w else {
-        return none_kept(w);
-    };
+    )?;
+    let frames = &mut *lent.frames;
     close_spec(
-        out,
-        locals,
-        references,
+        lent.out,
+        lent.locals,
+        lent.references,
         frames,
-        captures,
+        lent.captures,
         limits,
         after,
         at,
@@ -1383,12 +871,7 @@ fn on_param(
 #[cycle(analysis)]
 fn on_params(
     tree: &[u8],
-    out: &mut [u8],
-    diagnostics: &mut [u8],
-    locals: &mut [u32],
-    frames: &mut [u32],
-    captures: &mut [u32],
-    references: &mut [u32],
+    lent: &mut Lent<'_>,
     limits: Limits,
     st: AnalysisStack,
     at: usize,
@@ -1396,44 +879,18 @@ fn on_params(
     n: u32,
     here: Place,
 ) -> Specs
-    requires ready { Ready limits (buffers out.old diagnostics.old locals.old frames.old captures.old references.old)
+    requires ready { Ready limits (contents lent.old)
         st tree.now at nest here }
     requires accepted { Accepted (params_at tree.now nest n at) }
-    ensures { WalksSpecs result limits (buffers out.old diagnostics.old locals.old frames.old captures.old
-        references.old) (buffers out.new diagnostics.new locals.new frames.new captures.new references.new) st (λ
+    ensures walks { WalksSpecs result limits (contents lent.old) (contents lent.new) st (λ
         limits σ. run_params tree.now limits nest n at 0 (place_of here) σ) }
+    ensures same_buffers { SameBuffers lent.old lent.new }
 {
     let mut state = st;
     let mut p = at;
     let mut kept: u32 = 0;
-    let mut i: u32 = 0;
-    while i < n {
-        let w = on_param(
-            tree,
-            out,
-            diagnostics,
-            locals,
-            frames,
-            captures,
-            references,
-            limits,
-            state,
-            p,
-            nest,
-            kept,
-            here,
-        );
-        match w {
-            Specs::To(after, next, count) => {
-                state = after;
-                p = next;
-                kept = count;
-            }
-            Specs::Refused(number, place) => {
-                return Specs::Refused(number, place);
-            }
-        }
-        i += 1;
+    for _ in 0..n {
+        (state, p, kept) = on_param(tree, lent, limits, state, p, nest, kept, here)?;
     }
-    Specs::To(state, p, kept)
+    Ok((state, p, kept))
 }

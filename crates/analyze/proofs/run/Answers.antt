@@ -1,19 +1,16 @@
 -- `run` is the rules' run of whatever was lent. Assumes nothing.
-use Rattle.std.proofs.Common.{refl}
-use Rattle.state.specs.Seen.{buffers}
+use Rattle.std.proofs.lemmas.Result.{err_from_is_err_and}
+use Rattle.state.specs.Seen.{contents}
 use Rattle.call_enter.proofs.Laws.{rooted, not_entered}
 use Rattle.analyze.proofs.Laws.{ran_refused}
 use Rattle.analyze.proofs.run.Goals as goal
 
 pub walk_root-requires : goal.walk_root-requires
 walk_root-requires c =
-    let b = buffers c.args.out.now c.args.diagnostics.now c.args.locals.now c.args.frames.now c.args.captures.now c.args.references.now in
-    rooted c.args.tree.now b c.args.limits (c.enter-entered.ensures c.args.out.now c.args.diagnostics.now) c.in-Past.is
+    rooted c.args.tree.now (contents c.args.lent.now) c.args.limits (c.enter.ensures c.args.lent.now.out.now c.args.lent.now.diagnostics.now) c.in_ok-enter.was
 
-pub returns-in-Past : goal.returns-in-Past
-returns-in-Past c = c.walk_root.ensures
-
-pub returns-in-Refused : goal.returns-in-Refused
-returns-in-Refused c =
-    let b = buffers c.args.out.now c.args.diagnostics.now c.args.locals.now c.args.frames.now c.args.captures.now c.args.references.now in
-    ran_refused c.args.tree.now b b c.args.limits refl (not_entered c.args.tree.now b c.args.limits (c.enter-entered.ensures c.args.out.now c.args.diagnostics.now) c.in-Refused.is)
+pub returns-in_err-enter-clause-ran : goal.returns-in_err-enter-clause-ran
+returns-in_err-enter-clause-ran c =
+    let b = contents c.args.lent.now in
+    let q = err_from_is_err_and c.from_residual.result c.from_residual.ensures.1 in
+    rw (q.1, q.2) (ran_refused c.args.tree.now b b c.args.limits (not_entered c.args.tree.now b c.args.limits (c.enter.ensures c.args.lent.now.out.now c.args.lent.now.diagnostics.now) c.in_err-enter.was))

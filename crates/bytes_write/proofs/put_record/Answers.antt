@@ -4,7 +4,8 @@ use Rattle.bytes_write.proofs.Laws.{length_numbers_bytes, put_stored}
 use Rattle.bytes_write.proofs.put_record.Goals as goal
 
 pub returns-then-room-ns : goal.returns-then-room-ns
-returns-then-room-ns c = (omega (arith, length_numbers_bytes c.args.ns.now), refl)
+returns-then-room-ns c =
+    (omega (arith, length_numbers_bytes c.args.ns.now, c.in_ok-checked_sub.ensures.1, c.in_ok-room.ensures.1), refl)
 
 pub returns : goal.returns
 returns c = (

@@ -9,13 +9,13 @@ pub returns-then-not-tables_fit : goal.returns-then-not-tables_fit
 returns-then-not-tables_fit c = λ out diagnostics.
     let s = c.args.tree.now in
     let b = buffers out diagnostics c.args.locals.now c.args.frames.now c.args.captures.now c.args.references.now in
-    enters_13 s b c.args.limits (fits_lent s b c.args.limits ∙ sym c.tables_fit.ensures ∙ c.if-not-tables_fit.true)
+    rw c.at.ensures (enters_13 s b c.args.limits (fits_lent s b c.args.limits ∙ sym c.tables_fit.ensures ∙ c.if-not-tables_fit.true))
 
 pub returns-then-tree-gt16777216 : goal.returns-then-tree-gt16777216
 returns-then-tree-gt16777216 c = λ out diagnostics.
     let s = c.args.tree.now in
     let b = buffers out diagnostics c.args.locals.now c.args.frames.now c.args.captures.now c.args.references.now in
-    enters_14 s b c.args.limits (fits_lent s b c.args.limits ∙ sym c.tables_fit.ensures ∙ c.if-not-tables_fit.false) c.if-tree-gt16777216.true
+    rw c.at-then-tree-gt16777216.ensures (enters_14 s b c.args.limits (fits_lent s b c.args.limits ∙ sym c.tables_fit.ensures ∙ c.if-not-tables_fit.false) c.if-tree-gt16777216.true)
 
 pub returns : goal.returns
 returns c = λ out diagnostics.

@@ -3,4 +3,4 @@ use Rattle.call_root.proofs.Laws.{empty}
 use Rattle.call_root.proofs.empty_stack.Goals as goal
 
 pub returns : goal.returns
-returns c = empty _ c.no_dependence-none.ensures
+returns c = empty _ c.no_dependence.ensures

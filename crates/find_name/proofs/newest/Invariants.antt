@@ -2,8 +2,5 @@
 use Rattle.find_name.proofs.Finding.{Searching}
 use Rattle.find_name.proofs.newest.Given as goal
 
-abbrev pub invariant-loop-left : goal.invariant-loop-left
-invariant-loop-left l = Searching l.locals l.name l.first l.n l.left
-
-abbrev pub decreases-loop-left : goal.decreases-loop-left
-decreases-loop-left l = l.left
+abbrev pub invariant-loop-k : goal.invariant-loop-k
+invariant-loop-k l = Searching l.locals l.name l.first l.n l.k

@@ -4,35 +4,22 @@ use Rattle.resolver.proofs.Closing.{closing_begin, closing_skip, next_small, clo
 use Rattle.resolver.proofs.pop_frame.Goals as goal
 use Rattle.resolver.proofs.pop_frame.Goals.{then-owner_at-top, else-owner_at-top}
 
-pub frame_at-f-requires : goal.frame_at-f-requires
-frame_at-f-requires c = omega (arith, c.requires.0.below.frames_fit, c.requires.1)
-
 pub loop-i-init : goal.loop-i-init
-loop-i-init c = closing_begin _ _ _ _ c.requires.0 c.requires.1 _ c.frame_at-f.ensures.from
-
-pub owner_at-requires : goal.owner_at-requires
-owner_at-requires c = omega (arith, c.loop-i.invariant.long, c.loop-i-test.true, c.requires.0.below.captures_fit)
+loop-i-init c = closing_begin _ _ _ _ c.requires.0 c.requires.1 _ c.frame_at-from.ensures.from
 
 pub capture_at-requires : goal.capture_at-requires
 capture_at-requires c = (
   omega (arith, c.loop-i.invariant.long, c.loop-i-test.true, c.requires.0.below.captures_fit),
-  next_small _ _ _ _ c.requires.0 c.requires.1 _ c.frame_at-f.ensures.from _ _ _ c.loop-i.invariant c.loop-i-test.true,
+  next_small _ _ _ _ c.requires.0 c.requires.1 _ c.frame_at-from.ensures.from _ _ _ c.loop-i.invariant c.loop-i-test.true,
 )
-
-pub put_capture-requires : goal.put_capture-requires
-put_capture-requires c =
-    omega (arith, c.loop-i.invariant.long, c.loop-i.invariant.behind, c.loop-i-test.true, c.requires.0.below.captures_fit)
-
-pub overflow_add-to : goal.overflow_add-to
-overflow_add-to c = omega (arith, c.loop-i.invariant.behind, c.loop-i-test.true, c.ranges.count)
 
 pub loop-i-preserved : goal.loop-i-preserved
 loop-i-preserved c = elim c.if-owner_at-top.branch [
-  | then-owner_at-top w ↦ rw (w.captures-is, w.to-is) (closing_move _ _ _ _ c.requires.0 c.requires.1 _ c.frame_at-f.ensures.from _ _ _ c.loop-i.invariant c.loop-i-test.true (λ e. w.if-owner_at-top.true (c.owner_at.ensures ∙ e)) _
+  | then-owner_at-top w ↦ rw (w.captures-is, w.to-is) (closing_move _ _ _ _ c.requires.0 c.requires.1 _ c.frame_at-from.ensures.from _ _ _ c.loop-i.invariant c.loop-i-test.true (λ e. w.if-owner_at-top.true (c.owner_at.ensures ∙ e)) _
       _ w.capture_at.ensures w.put_capture.ensures.at)
-  | else-owner_at-top w ↦ rw (w.captures-is, w.to-is) (closing_skip _ _ _ _ c.requires.0 c.requires.1 _ c.frame_at-f.ensures.from _ _ _ c.loop-i.invariant c.loop-i-test.true (sym c.owner_at.ensures ∙ w.if-owner_at-top.false))
+  | else-owner_at-top w ↦ rw (w.captures-is, w.to-is) (closing_skip _ _ _ _ c.requires.0 c.requires.1 _ c.frame_at-from.ensures.from _ _ _ c.loop-i.invariant c.loop-i-test.true (sym c.owner_at.ensures ∙ w.if-owner_at-top.false))
 ]
 
 pub returns : goal.returns
 returns c =
-    closing_end _ _ _ _ c.requires.0 c.requires.1 _ c.frame_at-f.ensures.from _ _ _ c.loop-i.invariant (omega (arith, c.loop-i.invariant.within, c.loop-i-test.false))
+    closing_end _ _ _ _ c.requires.0 c.requires.1 _ c.frame_at-from.ensures.from _ _ _ c.loop-i.invariant (omega (arith, c.loop-i.invariant.within, c.loop-i-test.false))

@@ -5,6 +5,3 @@ use Rattle.resolver.proofs.pop_frame.Given as goal
 
 abbrev pub invariant-loop-i : goal.invariant-loop-i
 invariant-loop-i l = Closing (l.n - 1) l.from l.count l.initial.captures l.captures l.to l.i
-
-abbrev pub decreases-loop-i : goal.decreases-loop-i
-decreases-loop-i l = l.count - l.i

@@ -1,20 +1,23 @@
 -- `finish_frame` is the rules'. Assumes nothing.
+use Rattle.std.proofs.lemmas.Result.{err_from_is_err_and}
 use Rattle.step_close.proofs.Finishing.{judgeable, frames_there, fit_judged, closeable, frame_finished, frame_stopped}
 use Rattle.step_close.proofs.finish_frame.Goals as goal
 
-pub judge_all-judged-requires : goal.judge_all-judged-requires
-judge_all-judged-requires c = judgeable c.requires.1 c.settle_frame-settled.ensures
+pub judge_all-requires : goal.judge_all-requires
+judge_all-requires c = judgeable c.requires.1 c.settle_frame-settled.ensures
 
 pub forget_names-requires : goal.forget_names-requires
-forget_names-requires c = frames_there (fit_judged c.requires.1 c.settle_frame-settled.ensures _ c.judge_all-judged.ensures c.in-Ok.is)
+forget_names-requires c = frames_there (fit_judged c.requires.1 c.settle_frame-settled.ensures _ c.judge_all.ensures c.in_ok-after.was)
 
 pub close_frame-requires : goal.close_frame-requires
 close_frame-requires c =
-    closeable c.requires.1 c.settle_frame-settled.ensures _ c.judge_all-judged.ensures c.in-Ok.is c.requires.0.before_there c.forget_names.ensures
+    closeable c.requires.1 c.settle_frame-settled.ensures _ c.judge_all.ensures c.in_ok-after.was c.requires.0.before_there c.forget_names.ensures
 
-pub returns-in-Ok : goal.returns-in-Ok
-returns-in-Ok c =
-    frame_finished c.requires.1 c.settle_frame-settled.ensures _ c.judge_all-judged.ensures c.in-Ok.is c.requires.0.before_there c.forget_names.ensures c.judge_all-judged.auto.diagnostics c.close_frame.ensures
+pub returns : goal.returns
+returns c =
+    frame_finished c.requires.1 c.settle_frame-settled.ensures _ c.judge_all.ensures c.in_ok-after.was c.requires.0.before_there c.forget_names.ensures c.judge_all.auto.diagnostics c.close_frame.ensures
 
-pub returns-in-Refused : goal.returns-in-Refused
-returns-in-Refused c = frame_stopped c.requires.1 c.settle_frame-settled.ensures _ c.judge_all-judged.ensures c.in-Refused.is
+pub returns-in_err-after : goal.returns-in_err-after
+returns-in_err-after c =
+    let q = err_from_is_err_and c.from_residual.result c.from_residual.ensures.1 in
+    rw (q.1, q.2) (frame_stopped c.requires.1 c.settle_frame-settled.ensures _ c.judge_all.ensures c.in_err-after.was)

@@ -1,12 +1,19 @@
 -- `finish_function` is the rules' end of a frame and of a function. Assumes nothing.
+use Rattle.std.proofs.lemmas.Result.{err_from_is_err_and}
 use Rattle.step_close.proofs.Functions.{function_finished, function_refused}
-use Rattle.step_emit.proofs.Laws.{placed}
+use Rattle.step_emit.proofs.Laws.{placed, refused}
 use Rattle.step_close.proofs.finish_function.Goals as goal
 
-pub returns-in-Ok : goal.returns-in-Ok
-returns-in-Ok c =
-    function_finished _ _ _ _ _ _ _ _ _ c.gives_argument-gives.ensures c.finish_frame-finished.ensures c.in-Ok.is c.finish_frame-finished.auto.out c.finish_frame-finished.auto.diagnostics c.name_function-named.ensures (placed _ c.walked_to.ensures)
+pub returns : goal.returns
+returns c =
+    function_finished _ _ _ _ _ _ _ _ _ c.gives_argument-gives.ensures c.finish_frame.ensures c.in_ok-after.was c.finish_frame.auto.out c.finish_frame.auto.diagnostics c.name_function.ensures (placed _ c.in_ok-name_function.was)
 
-pub returns-in-Refused : goal.returns-in-Refused
-returns-in-Refused c =
-    function_refused _ _ _ _ _ _ _ _ _ c.gives_argument-gives.ensures c.finish_frame-finished.ensures c.in-Refused.is
+pub returns-in_err-name_function : goal.returns-in_err-name_function
+returns-in_err-name_function c =
+    let q = err_from_is_err_and c.from_residual-in_err-name_function.result c.from_residual-in_err-name_function.ensures.1 in
+    rw (q.1, q.2) (function_finished _ _ _ _ _ _ _ _ _ c.gives_argument-gives.ensures c.finish_frame.ensures c.in_ok-after.was c.finish_frame.auto.out c.finish_frame.auto.diagnostics c.name_function.ensures (refused _ c.in_err-name_function.was))
+
+pub returns-in_err-after : goal.returns-in_err-after
+returns-in_err-after c =
+    let q = err_from_is_err_and c.from_residual.result c.from_residual.ensures.1 in
+    rw (q.1, q.2) (function_refused _ _ _ _ _ _ _ _ _ c.gives_argument-gives.ensures c.finish_frame.ensures c.in_err-after.was)

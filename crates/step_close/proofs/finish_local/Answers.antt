@@ -1,11 +1,19 @@
 -- `finish_local` is the rules' end of a frame and the record of the local. Assumes nothing.
+use Rattle.std.proofs.lemmas.Result.{err_from_is_err_and}
 use Rattle.step_close.proofs.Behind.{local_finished, local_refused}
-use Rattle.step_emit.proofs.Laws.{placed}
+use Rattle.step_emit.proofs.Laws.{placed, refused}
 use Rattle.step_close.proofs.finish_local.Goals as goal
 
-pub returns-in-Ok : goal.returns-in-Ok
-returns-in-Ok c =
-    local_finished _ _ _ _ c.finish_frame-finished.ensures c.in-Ok.is c.finish_frame-finished.auto.out c.finish_frame-finished.auto.diagnostics c.emit.ensures (placed _ c.walked_to.ensures)
+pub returns : goal.returns
+returns c =
+    local_finished _ _ _ _ c.finish_frame.ensures c.in_ok-after.was c.finish_frame.auto.out c.finish_frame.auto.diagnostics c.emit.ensures (placed _ c.in_ok-emit.was)
 
-pub returns-in-Refused : goal.returns-in-Refused
-returns-in-Refused c = local_refused _ _ _ _ c.finish_frame-finished.ensures c.in-Refused.is
+pub returns-in_err-emit : goal.returns-in_err-emit
+returns-in_err-emit c =
+    let q = err_from_is_err_and c.from_residual-in_err-emit.result c.from_residual-in_err-emit.ensures.1 in
+    rw (q.1, q.2) (local_finished _ _ _ _ c.finish_frame.ensures c.in_ok-after.was c.finish_frame.auto.out c.finish_frame.auto.diagnostics c.emit.ensures (refused _ c.in_err-emit.was))
+
+pub returns-in_err-after : goal.returns-in_err-after
+returns-in_err-after c =
+    let q = err_from_is_err_and c.from_residual.result c.from_residual.ensures.1 in
+    rw (q.1, q.2) (local_refused _ _ _ _ c.finish_frame.ensures c.in_err-after.was)

@@ -1,11 +1,19 @@
 -- `finish_object` is the rules' end of a frame and the record of the object. Assumes nothing.
+use Rattle.std.proofs.lemmas.Result.{err_from_is_err_and}
 use Rattle.step_close.proofs.Behind.{object_finished, object_refused}
-use Rattle.step_emit.proofs.Laws.{placed}
+use Rattle.step_emit.proofs.Laws.{placed, refused}
 use Rattle.step_close.proofs.finish_object.Goals as goal
 
-pub returns-in-Ok : goal.returns-in-Ok
-returns-in-Ok c =
-    object_finished _ _ _ _ c.finish_frame-finished.ensures c.in-Ok.is c.finish_frame-finished.auto.out c.finish_frame-finished.auto.diagnostics _ _ _ _ _ _ c.leave_object.ensures (placed _ c.walked_to.ensures)
+pub returns : goal.returns
+returns c =
+    object_finished _ _ _ _ c.finish_frame.ensures c.in_ok-after.was c.finish_frame.auto.out c.finish_frame.auto.diagnostics _ _ _ _ _ _ c.leave_object.ensures (placed _ c.in_ok-leave_object.was)
 
-pub returns-in-Refused : goal.returns-in-Refused
-returns-in-Refused c = λ d. object_refused _ _ _ _ c.finish_frame-finished.ensures _ _ _ _ _ c.in-Refused.is
+pub returns-in_err-leave_object : goal.returns-in_err-leave_object
+returns-in_err-leave_object c =
+    let q = err_from_is_err_and c.from_residual-in_err-leave_object.result c.from_residual-in_err-leave_object.ensures.1 in
+    rw (q.1, q.2) (object_finished _ _ _ _ c.finish_frame.ensures c.in_ok-after.was c.finish_frame.auto.out c.finish_frame.auto.diagnostics _ _ _ _ _ _ c.leave_object.ensures (refused _ c.in_err-leave_object.was))
+
+pub returns-in_err-after : goal.returns-in_err-after
+returns-in_err-after c =
+    let q = err_from_is_err_and c.from_residual.result c.from_residual.ensures.1 in
+    rw (q.1, q.2) (λ d. object_refused _ _ _ _ c.finish_frame.ensures _ _ _ _ _ c.in_err-after.was)

@@ -1,24 +1,22 @@
 -- `gives_argument` tells whether a function gives its argument. Assumes nothing.
-use Rattle.std.proofs.Common.{arith}
-use Rattle.step_close.proofs.Functions.{keeps_other, has_default, body_other, body_six}
+use mathlib.Core.Bool.{not}
+use lib.Dec.{leb}
+use Rattle.std.proofs.lemmas.Bool.{eq-eqb}
+use borrow.Author.Tests.{ne_eqb}
+use Rattle.step_close.proofs.Functions.{not_given, given_by_body, and_then, and_not}
 use Rattle.step_close.proofs.gives_argument.Goals as goal
+use Rattle.step_close.proofs.gives_argument.Goals.{then-function-eq1, else-function-eq1, then-not-function, else-not-function}
 
-pub returns-then-function-ne1 : goal.returns-then-function-ne1
-returns-then-function-ne1 c =
-    keeps_other c.args.function.defaults c.args.function.kept c.args.function.body_start c.args.st.out c.args.out.now c.if-function-ne1.true
+pub returns-then-function-st : goal.returns-then-function-st
+returns-then-function-st c =
+    given_by_body c.args.function.defaults c.args.function.kept c.args.function.body_start c.args.st.out c.args.out.now
+    (elim c.if-function-eq1.branch [ then-function-eq1 w ↦ and_then (eq-eqb _ 1 w.if-function-eq1.true) w.value-is | else-function-eq1 w ↦ and_not (not c.args.function.defaults) (ne_eqb _ 1 w.if-function-eq1.false) w.value-is ])
+    (elim c.if-not-function.branch [ then-not-function w ↦ and_then w.if-not-function.true w.value-is | else-not-function w ↦ and_not (leb c.args.function.body_start c.args.st.out) w.if-not-function.false w.value-is ])
+    c.if-function-st.true c.as_slice.ensures c.eq.ensures
 
-pub returns-then-function : goal.returns-then-function
-returns-then-function c =
-    has_default c.args.function.defaults c.args.function.kept c.args.function.body_start c.args.st.out c.args.out.now c.if-function-ne1.false c.if-function.true
-
-pub returns-then-st-function : goal.returns-then-st-function
-returns-then-st-function c =
-    body_other c.args.function.defaults c.args.function.kept c.args.function.body_start c.args.st.out c.args.out.now c.if-function-ne1.false c.if-function.false c.requires (λ e. omega (arith, e, c.if-st-function.true))
-
-pub returns-then-st-function-ne6 : goal.returns-then-st-function-ne6
-returns-then-st-function-ne6 c =
-    body_other c.args.function.defaults c.args.function.kept c.args.function.body_start c.args.st.out c.args.out.now c.if-function-ne1.false c.if-function.false c.requires c.if-st-function-ne6.true
-
-pub returns : goal.returns
-returns c =
-    body_six c.args.function.defaults c.args.function.kept c.args.function.body_start c.args.st.out c.args.out.now c.if-function-ne1.false c.if-function.false c.requires c.if-st-function-ne6.false c.is_first_slot.ensures
+pub returns-else-function-st : goal.returns-else-function-st
+returns-else-function-st c =
+    not_given c.args.function.defaults c.args.function.kept c.args.function.body_start c.args.st.out c.args.out.now
+    (elim c.if-function-eq1.branch [ then-function-eq1 w ↦ and_then (eq-eqb _ 1 w.if-function-eq1.true) w.value-is | else-function-eq1 w ↦ and_not (not c.args.function.defaults) (ne_eqb _ 1 w.if-function-eq1.false) w.value-is ])
+    (elim c.if-not-function.branch [ then-not-function w ↦ and_then w.if-not-function.true w.value-is | else-not-function w ↦ and_not (leb c.args.function.body_start c.args.st.out) w.if-not-function.false w.value-is ])
+    c.if-function-st.false c.requires

@@ -13,12 +13,3 @@ returns-then-is_taken c =
           ∙ sym (defined_twice _ _ _ _ _ _ (sym (c.is_taken.ensures.same out c.args.diagnostics.now captures references) ∙ c.if-is_taken.true));
       fit = λ out captures references f. c.report.ensures.fit c.args.limits out c.args.locals.now c.args.frames.now captures references f;
     }
-
-pub returns : goal.returns
-returns c =
-    record {
-      same = λ out captures references.
-          c.define_new.ensures.same out c.args.diagnostics.now captures references
-          (sym (c.is_taken.ensures.same out c.args.diagnostics.now captures references) ∙ c.if-is_taken.false);
-      fit = λ out captures references f. c.define_new.ensures.fit out c.args.diagnostics.now captures references f;
-    }

@@ -3,8 +3,8 @@ use Rattle.std.proofs.Common.{◌-◌}
 use Rattle.step_frame.proofs.Closing.{Pairing}
 use Rattle.step_frame.proofs.put_pairs.Given as goal
 
-abbrev pub invariant-loop-at : goal.invariant-loop-at
-invariant-loop-at l = Pairing l.initial.out l.used l.captures l.count l.owner l.out l.to l.at
+abbrev pub invariant-loop-i : goal.invariant-loop-i
+invariant-loop-i l = Pairing l.initial.out l.used l.captures l.count l.owner l.out l.to l.at
 
-abbrev pub decreases-loop-at : goal.decreases-loop-at
-decreases-loop-at l = l.count - l.at
+abbrev pub decreases-loop-i : goal.decreases-loop-i
+decreases-loop-i l = l.count - l.at

@@ -4,6 +4,3 @@ use Rattle.step_judge.proofs.judge_all.Given as goal
 
 abbrev pub invariant-loop-left : goal.invariant-loop-left
 invariant-loop-left l = Judging l.initial.diagnostics l.locals l.frames l.at l.first l.initial.after l.diagnostics l.after l.left
-
-abbrev pub decreases-loop-left : goal.decreases-loop-left
-decreases-loop-left l = l.left

@@ -1,18 +1,16 @@
 -- `step_open::begin_local` meets its contract: the frame, then the binds, 6 bytes after its place. Assumes nothing.
-use Rattle.step_open.proofs.Beginning.{beginning_needs}
+use Rattle.std.proofs.lemmas.Result.{err_from_is_err_and}
+use Rattle.step_open.proofs.Beginning.{opened_framed, opened_fitting, local_begun, local_refused}
 use Rattle.step_open.proofs.begin_local.Goals as goal
 
-pub open_frame-opened-requires : goal.open_frame-opened-requires
-open_frame-opened-requires c = search beginning_needs
-
-pub overflow_add-at : goal.overflow_add-at
-overflow_add-at c = search beginning_needs
-
 pub define_binds-requires : goal.define_binds-requires
-define_binds-requires c = search beginning_needs
+define_binds-requires c =
+    (c.requires.0, c.requires.2, opened_framed c.open_frame.ensures c.in_ok-inside.was c.requires.3, opened_fitting c.open_frame.ensures c.in_ok-inside.was c.requires.3)
 
-pub returns-in-Ok : goal.returns-in-Ok
-returns-in-Ok c = search beginning_needs
+pub returns : goal.returns
+returns c = local_begun c.open_frame.ensures c.in_ok-inside.was c.define_binds.ensures
 
-pub returns-in-Refused : goal.returns-in-Refused
-returns-in-Refused c = search beginning_needs
+pub returns-in_err-inside : goal.returns-in_err-inside
+returns-in_err-inside c =
+    let q = err_from_is_err_and c.from_residual.result c.from_residual.ensures.1 in
+    rw (q.1, q.2) (local_refused c.open_frame.ensures c.in_err-inside.was)

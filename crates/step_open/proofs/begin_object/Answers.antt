@@ -1,17 +1,16 @@
 -- `step_open::begin_object` meets its contract: the frame, `this`, then the names. Assumes nothing.
-use Rattle.std.proofs.Common.{arith}
-use Rattle.step_open.proofs.Beginning.{object_needs}
+use Rattle.std.proofs.lemmas.Result.{err_from_is_err_and}
+use Rattle.step_open.proofs.Beginning.{object_framed, object_fitting, object_begun, begun_refused}
 use Rattle.step_open.proofs.begin_object.Goals as goal
 
-pub open_object-opened-requires : goal.open_object-opened-requires
-open_object-opened-requires c =
-    (omega (arith, c.requires.1, c.requires.2), record { out = c.requires.3.out; diagnostics = c.args.diagnostics.now; captures = c.requires.3.captures; references = c.requires.3.references; fit = c.requires.3.fit })
-
 pub define_binds-requires : goal.define_binds-requires
-define_binds-requires c = search object_needs
+define_binds-requires c =
+    (c.requires.0, c.requires.2, object_framed c.open_object.ensures c.in_ok-inside.was c.requires.3, object_fitting c.open_object.ensures c.in_ok-inside.was c.requires.3)
 
-pub returns-in-Ok : goal.returns-in-Ok
-returns-in-Ok c = search object_needs
+pub returns : goal.returns
+returns c = object_begun c.open_object.ensures c.in_ok-inside.was c.define_binds.ensures
 
-pub returns-in-Refused : goal.returns-in-Refused
-returns-in-Refused c = search object_needs
+pub returns-in_err-inside : goal.returns-in_err-inside
+returns-in_err-inside c =
+    let q = err_from_is_err_and c.from_residual.result c.from_residual.ensures.1 in
+    rw (q.1, q.2) (begun_refused c.open_object.ensures c.in_err-inside.was)

@@ -3,4 +3,4 @@ use Rattle.step_static.proofs.Flags.{now_flagged}
 use Rattle.step_static.proofs.flag.Goals as goal
 
 pub returns : goal.returns
-returns c = now_flagged c.args.met.now c.word_of-word.result c.args.name c.requires c.word_of-word.ensures.0
+returns c = now_flagged c.args.met.now c.word_of.result c.args.name c.told-met c.word_of.ensures.0

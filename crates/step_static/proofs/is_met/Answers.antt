@@ -1,10 +1,12 @@
 -- `step_static::is_met` meets its contract: a name above all others, or not flagged, is none of them. Assumes nothing.
+use Rattle.std.proofs.Common.{◌∙◌}
 use Rattle.step_static.proofs.Static.{above_none, unflagged_none}
 use Rattle.step_static.proofs.is_met.Goals as goal
+use Rattle.step_static.proofs.is_met.Goals.{then-name-highest, else-name-highest}
 
-pub returns-then-highest-name : goal.returns-then-highest-name
-returns-then-highest-name c = above_none c.args.tree.now c.args.at c.args.n c.requires.1 c.if-highest-name.true
-
-pub returns-then-flag_of-eq0 : goal.returns-then-flag_of-eq0
-returns-then-flag_of-eq0 c =
-    unflagged_none c.args.tree.now c.args.at c.args.n c.args.name c.requires.2 c.flag_of.ensures c.if-flag_of-eq0.true
+pub returns-else-is_flagged : goal.returns-else-is_flagged
+returns-else-is_flagged c =
+    c.if-is_flagged.false ∙ elim c.if-name-highest.branch [
+      | then-name-highest w ↦ unflagged_none c.args.tree.now c.args.at c.args.n c.args.name c.requires.2 λ e. let set = w.is_flagged.ensures.1 e in cc
+      | else-name-highest w ↦ above_none c.args.tree.now c.args.at c.args.n c.requires.1 w.if-name-highest.false
+    ]

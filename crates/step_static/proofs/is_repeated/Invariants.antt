@@ -2,8 +2,5 @@
 use Rattle.step_static.proofs.Static.{Among}
 use Rattle.step_static.proofs.is_repeated.Given as goal
 
-abbrev pub invariant-loop-left : goal.invariant-loop-left
-invariant-loop-left l = Among l.tree l.at l.name l.n l.left
-
-abbrev pub decreases-loop-left : goal.decreases-loop-left
-decreases-loop-left l = l.left
+abbrev pub invariant-loop-i : goal.invariant-loop-i
+invariant-loop-i l = Among l.tree l.at l.name l.n l.i

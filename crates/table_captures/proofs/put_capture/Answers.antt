@@ -1,10 +1,6 @@
 -- `put_capture` stores a capture, and the other entries stay. Assumes nothing.
-use Rattle.std.proofs.Common.{sym}
 use Rattle.table_captures.proofs.Laws.{capture_stored}
 use Rattle.table_captures.proofs.put_capture.Goals as goal
 
 pub returns-clause-at : goal.returns-clause-at
 returns-clause-at c = capture_stored _ _ _ _ _ _ c.put_entry.ensures c.slot_kind.ensures c.slot_number.ensures.0
-
-pub returns-clause-small : goal.returns-clause-small
-returns-clause-small c = rw (sym c.slot_number.ensures.0) c.slot_number.ensures.1

@@ -1,19 +1,6 @@
 -- `keep_references` keeps what was noted, within the limit, and clears the notes. The invariant: what is left to keep and to clear gives what the whole gives. Assumes nothing.
-use Rattle.std.proofs.Common.{arith}
-use Rattle.table_references.proofs.Keeping.{keeping_begins, keeping_passed, four_passed, keeping_kept, keeping_refused, keeping_ends}
+use Rattle.table_references.proofs.Keeping.{keeping_passed, four_passed, keeping_kept, keeping_refused, keeping_ends}
 use Rattle.table_references.proofs.keep_references.Goals as goal
-
-pub loop-next-init : goal.loop-next-init
-loop-next-init c = keeping_begins (omega arith) (omega arith)
-
-pub none_noted-requires : goal.none_noted-requires
-none_noted-requires c = (omega arith, omega arith)
-
-pub overflow_add-next : goal.overflow_add-next
-overflow_add-next c = omega (arith, (c.none_noted.ensures c.if-none_noted.true).inside)
-
-pub loop-next-smaller-then-none_noted : goal.loop-next-smaller-then-none_noted
-loop-next-smaller-then-none_noted c = omega (arith, (c.none_noted.ensures c.if-none_noted.true).inside)
 
 pub loop-next-preserved-then-none_noted : goal.loop-next-preserved-then-none_noted
 loop-next-preserved-then-none_noted c = four_passed c.loop-next.invariant (c.none_noted.ensures c.if-none_noted.true)

@@ -1,6 +1,6 @@
 -- What falls with each call: the level of nesting, and at one level the member's rank. A loop's invariant: what is left of the turns, from here, gives
 -- what all of them give. Assumes nothing.
-use Rattle.std.proofs.Common.{◌*◌, ◌+◌, ◌-◌}
+use Rattle.std.proofs.Common.{◌*◌, ◌+◌}
 use Rattle.bytes_skip.specs.Places.{over, expr_past, held_past}
 use Rattle.tree.specs.Places.{bind_past, values_past}
 use Rattle.tree.proofs.Turns.{Turn}
@@ -8,23 +8,14 @@ use Rattle.rules.specs.FirstWalk.{any_expression}
 use Rattle.tree.proofs.Walks.{ValuesTurn}
 use Rattle.tree.proofs.+first_walk.Given as goal
 
-abbrev pub invariant-walk_binds-loop-i : goal.invariant-walk_binds-loop-i
-invariant-walk_binds-loop-i l = Turn (bind_past l.tree l.nest) (over l.n (bind_past l.tree l.nest) l.at) l.n l.i l.p
+abbrev pub invariant-walk_binds-loop : goal.invariant-walk_binds-loop
+invariant-walk_binds-loop l = Turn (bind_past l.tree l.nest) (over l.n (bind_past l.tree l.nest) l.at) l.n l.counter l.p
 
-abbrev pub decreases-walk_binds-loop-i : goal.decreases-walk_binds-loop-i
-decreases-walk_binds-loop-i l = l.n - l.i
+abbrev pub invariant-walk_exprs-loop : goal.invariant-walk_exprs-loop
+invariant-walk_exprs-loop l = Turn (expr_past l.tree l.nest any_expression) (over l.n (expr_past l.tree l.nest any_expression) l.at) l.n l.counter l.p
 
-abbrev pub invariant-walk_exprs-loop-i : goal.invariant-walk_exprs-loop-i
-invariant-walk_exprs-loop-i l = Turn (expr_past l.tree l.nest any_expression) (over l.n (expr_past l.tree l.nest any_expression) l.at) l.n l.i l.p
-
-abbrev pub decreases-walk_exprs-loop-i : goal.decreases-walk_exprs-loop-i
-decreases-walk_exprs-loop-i l = l.n - l.i
-
-abbrev pub invariant-walk_many-loop-i : goal.invariant-walk_many-loop-i
-invariant-walk_many-loop-i l = Turn (held_past l.tree l.nest l.mark) (over l.n (held_past l.tree l.nest l.mark) l.at) l.n l.i l.p
-
-abbrev pub decreases-walk_many-loop-i : goal.decreases-walk_many-loop-i
-decreases-walk_many-loop-i l = l.n - l.i
+abbrev pub invariant-walk_many-loop : goal.invariant-walk_many-loop
+invariant-walk_many-loop l = Turn (held_past l.tree l.nest l.mark) (over l.n (held_past l.tree l.nest l.mark) l.at) l.n l.counter l.p
 
 abbrev pub decreases-walk_array : goal.decreases-walk_array
 decreases-walk_array l = 6 * l.nest
@@ -77,8 +68,5 @@ decreases-walk_value l = 6 * l.nest + 3
 abbrev pub decreases-walk_values : goal.decreases-walk_values
 decreases-walk_values l = 6 * l.nest + 4
 
-abbrev pub invariant-walk_values-loop-i : goal.invariant-walk_values-loop-i
-invariant-walk_values-loop-i l = ValuesTurn l.tree l.nest (values_past l.tree l.nest l.n l.heads l.at) l.n l.i l.head l.p
-
-abbrev pub decreases-walk_values-loop-i : goal.decreases-walk_values-loop-i
-decreases-walk_values-loop-i l = l.n - l.i
+abbrev pub invariant-walk_values-loop : goal.invariant-walk_values-loop
+invariant-walk_values-loop l = ValuesTurn l.tree l.nest (values_past l.tree l.nest l.n l.heads l.at) l.n l.counter l.head l.p

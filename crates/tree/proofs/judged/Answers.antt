@@ -1,5 +1,5 @@
 -- `tree::judged` meets its contract. Assumes nothing.
-use Rattle.std.proofs.Common.{ap, arith, length, sym, ◌∙◌}
+use Rattle.std.proofs.Common.{ap, length, sym, ◌∙◌}
 use Rattle.rules.specs.Records.{all_in_range, fields, numbers_of}
 use Rattle.bytes_records.specs.Marks.{mark_of}
 use Rattle.bytes_records.proofs.Laws.{room_there, room_missing, numbers_part}
@@ -8,23 +8,11 @@ use Rattle.tree.proofs.judged.Goals as goal
 
 pub returns-then-not-has_room : goal.returns-then-not-has_room
 returns-then-not-has_room c =
-    judged_short c.args.tree.now (mark_of c.args.mark) c.args.at (rw c.size_of-size.ensures.0 at (room_missing c.args.at c.size_of-size.result (length c.args.tree.now) _ c.has_room.ensures c.if-not-has_room.true))
-
-pub slice_bounds-in_range-count : goal.slice_bounds-in_range-count
-slice_bounds-in_range-count c =
-    omega (arith, room_there c.args.at c.size_of-size.result (length c.args.tree.now) _ c.has_room.ensures c.if-not-has_room.false, c.size_of-size.ensures.1)
-
-pub slice_bounds-in_range-start : goal.slice_bounds-in_range-start
-slice_bounds-in_range-start c =
-    omega (arith, room_there c.args.at c.size_of-size.result (length c.args.tree.now) _ c.has_room.ensures c.if-not-has_room.false, c.size_of-size.ensures.1)
+    rw c.at.ensures (judged_short c.args.tree.now (mark_of c.args.mark) c.args.at (rw c.size_of-size.ensures.0 at (room_missing c.args.at c.size_of-size.result (length c.args.tree.now) _ c.has_room.ensures c.if-not-has_room.true)))
 
 pub returns-then-not-in_range : goal.returns-then-not-in_range
 returns-then-not-in_range c =
-    judged_wrong c.args.tree.now (mark_of c.args.mark) c.args.at (rw c.size_of-size.ensures.0 at (room_there c.args.at c.size_of-size.result (length c.args.tree.now) _ c.has_room.ensures c.if-not-has_room.false)) (sym (c.in_range.ensures ∙ ap (all_in_range (fields (mark_of c.args.mark))) (numbers_part c.args.tree.now c.args.at (numbers_of (mark_of c.args.mark)) 2)) ∙ c.if-not-in_range.true)
-
-pub overflow_add-result : goal.overflow_add-result
-overflow_add-result c =
-    omega (arith, room_there c.args.at c.size_of-size.result (length c.args.tree.now) _ c.has_room.ensures c.if-not-has_room.false, c.size_of-size.ensures.1)
+    rw c.at-then-not-in_range.ensures (judged_wrong c.args.tree.now (mark_of c.args.mark) c.args.at (rw c.size_of-size.ensures.0 at (room_there c.args.at c.size_of-size.result (length c.args.tree.now) _ c.has_room.ensures c.if-not-has_room.false)) (sym (c.in_range.ensures ∙ ap (all_in_range (fields (mark_of c.args.mark))) (numbers_part c.args.tree.now c.args.at (numbers_of (mark_of c.args.mark)) 2)) ∙ c.if-not-in_range.true))
 
 pub returns : goal.returns
 returns c =

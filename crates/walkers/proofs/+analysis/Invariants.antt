@@ -1,9 +1,9 @@
 -- The one proof of the cycle: the measures, and what each member's module shows. Assumes nothing.
-use Rattle.std.proofs.Common.{◌*◌, ◌+◌, ◌-◌}
+use Rattle.std.proofs.Common.{◌*◌, ◌+◌}
 use Rattle.state.specs.Walks.{place_of}
 use Rattle.step_leaf.specs.Leaves.{items_rank}
 use Rattle.law_runs.specs.Run.{Accepted, items_at, binds_at, run_binds, heads_at, run_heads, run_items, params_at, run_params}
-use Rattle.state.specs.Seen.{buffers}
+use Rattle.state.specs.Seen.{contents, SameBuffers}
 use Rattle.law_joins.proofs.Turns.{TurnSpecs, Turn, TurnValues}
 use Rattle.walkers.proofs.+analysis.Given as goal
 
@@ -67,32 +67,17 @@ decreases-on_value l = 16 * l.nest + 4
 abbrev pub decreases-on_values : goal.decreases-on_values
 decreases-on_values l = 16 * l.nest + 5
 
-abbrev pub invariant-on_binds-loop-i : goal.invariant-on_binds-loop-i
-invariant-on_binds-loop-i l = TurnSpecs (λ n p. Accepted (binds_at l.tree l.nest n p)) (λ n p kept L σ. run_binds l.tree L l.nest n p l.base kept (place_of l.here) σ) l.limits l.tree l.nest l.here (buffers l.initial.out l.initial.diagnostics l.initial.locals l.initial.frames l.initial.captures l.initial.references) l.initial.state l.at l.n (buffers l.out l.diagnostics l.locals l.frames l.captures l.references) l.state l.p l.kept l.i
+abbrev pub invariant-on_binds-loop : goal.invariant-on_binds-loop
+invariant-on_binds-loop l = (TurnSpecs (λ n p. Accepted (binds_at l.tree l.nest n p)) (λ n p kept L σ. run_binds l.tree L l.nest n p l.base kept (place_of l.here) σ) l.limits l.tree l.nest l.here (contents l.fn.lent) l.fn.st l.at l.n (contents l.lent) l.state l.p l.kept l.counter) × SameBuffers l.fn.lent l.lent
 
-abbrev pub decreases-on_binds-loop-i : goal.decreases-on_binds-loop-i
-decreases-on_binds-loop-i l = l.n - l.i
+abbrev pub invariant-on_heads-loop : goal.invariant-on_heads-loop
+invariant-on_heads-loop l = (Turn (λ n p. Accepted (heads_at l.tree l.nest n p)) (λ n p L σ. run_heads l.tree L l.nest n p (place_of l.here) σ) l.limits l.tree l.nest l.here (contents l.fn.lent) l.fn.st l.at l.n (contents l.lent) l.state l.p l.counter) × SameBuffers l.fn.lent l.lent
 
-abbrev pub invariant-on_heads-loop-i : goal.invariant-on_heads-loop-i
-invariant-on_heads-loop-i l = Turn (λ n p. Accepted (heads_at l.tree l.nest n p)) (λ n p L σ. run_heads l.tree L l.nest n p (place_of l.here) σ) l.limits l.tree l.nest l.here (buffers l.initial.out l.initial.diagnostics l.initial.locals l.initial.frames l.initial.captures l.initial.references) l.initial.state l.at l.n (buffers l.out l.diagnostics l.locals l.frames l.captures l.references) l.state l.p l.i
+abbrev pub invariant-on_items-loop : goal.invariant-on_items-loop
+invariant-on_items-loop l = (Turn (λ n p. Accepted (items_at l.tree l.nest n p)) (λ n p L σ. run_items l.tree L l.nest n p (place_of l.here) σ) l.limits l.tree l.nest l.here (contents l.fn.lent) l.fn.st l.at l.n (contents l.lent) l.state l.p l.counter) × SameBuffers l.fn.lent l.lent
 
-abbrev pub decreases-on_heads-loop-i : goal.decreases-on_heads-loop-i
-decreases-on_heads-loop-i l = l.n - l.i
+abbrev pub invariant-on_params-loop : goal.invariant-on_params-loop
+invariant-on_params-loop l = (TurnSpecs (λ n p. Accepted (params_at l.tree l.nest n p)) (λ n p kept L σ. run_params l.tree L l.nest n p kept (place_of l.here) σ) l.limits l.tree l.nest l.here (contents l.fn.lent) l.fn.st l.at l.n (contents l.lent) l.state l.p l.kept l.counter) × SameBuffers l.fn.lent l.lent
 
-abbrev pub invariant-on_items-loop-i : goal.invariant-on_items-loop-i
-invariant-on_items-loop-i l = Turn (λ n p. Accepted (items_at l.tree l.nest n p)) (λ n p L σ. run_items l.tree L l.nest n p (place_of l.here) σ) l.limits l.tree l.nest l.here (buffers l.initial.out l.initial.diagnostics l.initial.locals l.initial.frames l.initial.captures l.initial.references) l.initial.state l.at l.n (buffers l.out l.diagnostics l.locals l.frames l.captures l.references) l.state l.p l.i
-
-abbrev pub decreases-on_items-loop-i : goal.decreases-on_items-loop-i
-decreases-on_items-loop-i l = l.n - l.i
-
-abbrev pub invariant-on_params-loop-i : goal.invariant-on_params-loop-i
-invariant-on_params-loop-i l = TurnSpecs (λ n p. Accepted (params_at l.tree l.nest n p)) (λ n p kept L σ. run_params l.tree L l.nest n p kept (place_of l.here) σ) l.limits l.tree l.nest l.here (buffers l.initial.out l.initial.diagnostics l.initial.locals l.initial.frames l.initial.captures l.initial.references) l.initial.state l.at l.n (buffers l.out l.diagnostics l.locals l.frames l.captures l.references) l.state l.p l.kept l.i
-
-abbrev pub decreases-on_params-loop-i : goal.decreases-on_params-loop-i
-decreases-on_params-loop-i l = l.n - l.i
-
-abbrev pub invariant-on_values-loop-i : goal.invariant-on_values-loop-i
-invariant-on_values-loop-i l = TurnValues l.limits l.tree l.nest l.here (buffers l.initial.out l.initial.diagnostics l.initial.locals l.initial.frames l.initial.captures l.initial.references) l.initial.state l.heads l.at l.n (buffers l.out l.diagnostics l.locals l.frames l.captures l.references) l.state l.head l.p l.i
-
-abbrev pub decreases-on_values-loop-i : goal.decreases-on_values-loop-i
-decreases-on_values-loop-i l = l.n - l.i
+abbrev pub invariant-on_values-loop : goal.invariant-on_values-loop
+invariant-on_values-loop l = (TurnValues l.limits l.tree l.nest l.here (contents l.fn.lent) l.fn.st l.heads l.at l.n (contents l.lent) l.state l.head l.p l.counter) × SameBuffers l.fn.lent l.lent

@@ -1,0 +1,2 @@
+-- What the contracts of those that refuse cite.
+pub mod Meaning
