@@ -19,6 +19,7 @@ use value_depths::AnalysisResult;
 use value_local::{Binding, LocalDefinition, LocalId};
 
 // What a call answers: 0 or a refusal's number, its place, and where nothing was refused the rest.
+// Numbers, and no `Result`: so the contract of `analyze_root` has it, and the C interface.
 #[derive(Clone, Copy)]
 pub struct AnalysisReport {
     pub number: u32,

@@ -8,8 +8,9 @@ mod stored;
 use bytes_read::number_at;
 use comparison::Comparison;
 use gate_input::{read_full, read_part};
+use state::Lent;
 use std::io::{self, Read};
-use stored::{Lent, Stored};
+use stored::{Stored, analyzed};
 
 // The longest part of a stored call, and the most numbers of a table that is lent to one.
 const BYTES: usize = 8192;
@@ -28,7 +29,7 @@ fn replay_lent(
     stored: &Stored<'_>,
     mut lent: Lent<'_>,
 ) -> io::Result<bool> {
-    let report = lent.analyzed(stored.tree, stored.limits());
+    let report = analyzed(stored.tree, &mut lent, stored.limits());
     let mut comparison = Comparison::new(rt, call);
     comparison.hold_report(stored, &report)?;
     comparison.hold_bytes(" output bytes", lent.out, stored.out)?;

@@ -1,7 +1,7 @@
 // One stored call, and what is lent to it.
 use bytes_read::number_at;
 use call_root::AnalysisReport;
-use state::Limits;
+use state::{Lent, Limits};
 
 // A call's head, whose numbers stand at fixed offsets; the tree; and the bytes of both buffers that it is to leave.
 #[derive(Clone, Copy)]
@@ -34,29 +34,16 @@ impl Stored<'_> {
     }
 }
 
-// The six buffers of a call.
-#[derive(Drop)]
-pub struct Lent<'a> {
-    pub out: &'a mut [u8],
-    pub diagnostics: &'a mut [u8],
-    pub locals: &'a mut [u32],
-    pub frames: &'a mut [u32],
-    pub captures: &'a mut [u32],
-    pub references: &'a mut [u32],
-}
-
-impl Lent<'_> {
-    // The report of the call, which is lent all of them.
-    pub fn analyzed(&mut self, tree: &[u8], limits: Limits) -> AnalysisReport {
-        analyze::analyze_root(
-            tree,
-            self.out,
-            self.diagnostics,
-            self.locals,
-            self.frames,
-            self.captures,
-            self.references,
-            limits,
-        )
-    }
+// The report of the call, which is lent all six buffers.
+pub fn analyzed(tree: &[u8], lent: &mut Lent<'_>, limits: Limits) -> AnalysisReport {
+    analyze::analyze_root(
+        tree,
+        lent.out,
+        lent.diagnostics,
+        lent.locals,
+        lent.frames,
+        lent.captures,
+        lent.references,
+        limits,
+    )
 }

@@ -57,17 +57,17 @@ module _ (first : Stepping) (l : Limits) (b b₁ : Buffers) (st : AnalysisStack)
 
 -- After the frame's end
 
-module _ {l : Limits} {out out₁ diagnostics diagnostics₁ locals locals₁ frames captures captures₁ references : List ℕ} {st : AnalysisStack} (place kept before next : ℕ) {r₁ : Step}
-    (finished : Steps r₁ l (buffers out diagnostics locals frames captures references) (buffers out₁ diagnostics₁ locals₁ frames captures₁ references) st
+module _ {l : Limits} {out out₁ diagnostics diagnostics₁ locals locals₁ frames frames₁ captures captures₁ references references₁ : List ℕ} {st : AnalysisStack} (place kept before next : ℕ) {r₁ : Step}
+    (finished : Steps r₁ l (buffers out diagnostics locals frames captures references) (buffers out₁ diagnostics₁ locals₁ frames₁ captures₁ references₁) st
     (λ limits. scoping.finish_frame limits place kept before)) where
   abbrev b : Buffers
   b = buffers out diagnostics locals frames captures references
 
   abbrev b₁ : Buffers
-  b₁ = buffers out₁ diagnostics₁ locals₁ frames captures₁ references
+  b₁ = buffers out₁ diagnostics₁ locals₁ frames₁ captures₁ references₁
 
   abbrev to : List ℕ → Buffers
-  to out₂ = buffers out₂ diagnostics₁ locals₁ frames captures₁ references
+  to out₂ = buffers out₂ diagnostics₁ locals₁ frames₁ captures₁ references₁
 
   pub local_refused : {why : Refusal} → r₁ ≡ Err why → Walks (Err why) l b b₁ st (λ limits. finished_local limits place kept before next)
   unfolding finished_local
@@ -92,7 +92,7 @@ module _ {l : Limits} {out out₁ diagnostics diagnostics₁ locals locals₁ fr
     local_finished {out₂} emitted placed =
         walks_on (λ limits. scoping.finish_frame limits place kept before) l b b₁ st finished
         (λ limits. writing.emit limits place LO (kept ∷ [])) (to out₂) next is same_limits
-        (emitted_steps emitted LO refl l diagnostics₁ locals₁ frames captures₁ references) placed
+        (emitted_steps emitted LO refl l diagnostics₁ locals₁ frames₁ captures₁ references₁) placed
 
     pub object_finished : {out₂ : List ℕ} {r : Step} {w : Walked} (outermost self_used super_used : Bool) (assertions values : ℕ) (is_static : Bool)
         → ObjectLeft r out₁ out₂ st₁ place outermost self_used super_used kept assertions values is_static → Placed w r next
@@ -101,4 +101,4 @@ module _ {l : Limits} {out out₁ diagnostics diagnostics₁ locals locals₁ fr
     object_finished {out₂} outermost self_used super_used assertions values is_static left placed d =
         walks_on (λ limits. scoping.finish_frame limits place kept before) l b b₁ st finished
         (λ limits. leave_object limits place outermost (outer_use self_used super_used d) kept assertions values is_static) (to out₂) next is same_limits
-        (left.steps d l diagnostics₁ locals₁ frames captures₁ references) placed
+        (left.steps d l diagnostics₁ locals₁ frames₁ captures₁ references₁) placed

@@ -91,16 +91,16 @@ module _ (defaults : Bool) (kept start to : ℕ) (out : List ℕ) where
 
 -- After the frame's end
 
-module _ {l : Limits} {out out₁ diagnostics diagnostics₁ locals locals₁ frames captures captures₁ references : List ℕ} {st : AnalysisStack}
+module _ {l : Limits} {out out₁ diagnostics diagnostics₁ locals locals₁ frames frames₁ captures captures₁ references references₁ : List ℕ} {st : AnalysisStack}
     (place kept before next span start body_start : ℕ) (defaults : Bool) (naming : Naming) {gives : Bool}
     (told : gives ≡ gives_argument defaults kept (drop body_start (take st.out out))) {r₁ : Step}
-    (finished : Steps r₁ l (buffers out diagnostics locals frames captures references) (buffers out₁ diagnostics₁ locals₁ frames captures₁ references) st
+    (finished : Steps r₁ l (buffers out diagnostics locals frames captures references) (buffers out₁ diagnostics₁ locals₁ frames₁ captures₁ references₁) st
     (λ limits. scoping.finish_frame limits place kept before)) where
   abbrev b : Buffers
   b = buffers out diagnostics locals frames captures references
 
   abbrev b₁ : Buffers
-  b₁ = buffers out₁ diagnostics₁ locals₁ frames captures₁ references
+  b₁ = buffers out₁ diagnostics₁ locals₁ frames₁ captures₁ references₁
 
   abbrev named_so : rules.Limits → rules.AnalysisStack → Outcome rules.AnalysisStack
   named_so limits = walk.finish_function limits place (span_of span) start kept (naming_of naming) gives
@@ -124,9 +124,9 @@ module _ {l : Limits} {out out₁ diagnostics diagnostics₁ locals locals₁ fr
   pub function_finished : {st₁ : AnalysisStack} {out₂ diagnostics₂ : List ℕ} {r : Step} {w : Walked} → r₁ ≡ Ok st₁
       → length out₁ ≡ length out → length diagnostics₁ ≡ length diagnostics
       → FunctionNamed r out₁ out₂ diagnostics₁ diagnostics₂ st₁ place span start kept naming gives → Placed w r next
-      → Walks w l b (buffers out₂ diagnostics₂ locals₁ frames captures₁ references) st
+      → Walks w l b (buffers out₂ diagnostics₂ locals₁ frames₁ captures₁ references₁) st
       (λ limits. finished_function limits place (span_of span) start body_start kept before defaults (naming_of naming) next)
   function_finished {st₁} {out₂} {diagnostics₂} is size size' named placed =
       as_told (walks_on (λ limits. scoping.finish_frame limits place kept before) l b b₁ st finished named_so
-      (buffers out₂ diagnostics₂ locals₁ frames captures₁ references) next is (limits_same l out out₁ diagnostics diagnostics₁ size size')
-      (named.steps l locals₁ frames captures₁ references) placed)
+      (buffers out₂ diagnostics₂ locals₁ frames₁ captures₁ references₁) next is (limits_same l out out₁ diagnostics diagnostics₁ size size')
+      (named.steps l locals₁ frames₁ captures₁ references₁) placed)

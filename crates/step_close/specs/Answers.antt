@@ -1,10 +1,13 @@
 -- What the steps at a defining frame's end answer and leave, whatever the buffers hold that a step does not touch. A primed list is what a
 -- step leaves of a buffer. Assumes nothing.
-use Rattle.std.specs.Prelude.{ℕ, ◌≤◌, Bool, List, take}
+use Rattle.std.specs.Prelude.{ℕ, ◌≤◌, Bool, List, ◌≡◌, take}
 use Rattle.rules.specs.State as rules
 use Rattle.rules.specs.Scoping as scoping
 use Rattle.law_runs.specs.Steps.{finished_local, finished_function, finished_object}
-use Rattle.state.specs.Seen.{span_of, buffers, Fit}
+use Rattle.state.specs.Seen.{span_of, Buffers, buffers, Fit}
+use Rattle.state.specs.declared.Lent.{Lent}
+use Rattle.step_record.specs.declared.ObjectEnd.{ObjectEnd}
+use Rattle.step_record.specs.declared.FunctionEnd.{FunctionEnd}
 use Rattle.state.specs.Walks.{naming_of, Walks, Steps, Becomes}
 use Rattle.state.specs.declared.AnalysisStack.{AnalysisStack}
 use Rattle.state.specs.declared.Limits.{Limits}
@@ -26,34 +29,27 @@ pub record ForgottenNames (r : AnalysisStack) (frames : List ℕ) (st : Analysis
 -- The end of a frame, over all six buffers
 
 -- the state fits the buffers, and the frame's names can be settled
-abbrev pub Finishable : (out diagnostics locals frames captures references : List ℕ) → Limits → AnalysisStack → (kept before : ℕ) → Type 0
-Finishable out diagnostics locals frames captures references l st kept before =
-    Settleable locals references st kept before × Fit l (buffers out diagnostics locals frames captures references) st
+abbrev pub Finishable : Buffers → Limits → AnalysisStack → (kept before : ℕ) → Type 0
+Finishable b l st kept before = Settleable b.locals b.references st kept before × Fit l b st
 
-abbrev pub FrameFinished : Step → (out out' diagnostics diagnostics' locals locals' frames captures captures' references : List ℕ) → Limits → AnalysisStack
-    → (place kept before : ℕ) → Type 0
-FrameFinished r out out' diagnostics diagnostics' locals locals' frames captures captures' references l st place kept before =
-    Steps r l (buffers out diagnostics locals frames captures references) (buffers out' diagnostics' locals' frames captures' references) st
-    (λ limits. scoping.finish_frame limits place kept before)
+-- what the end of a frame only reads stays as it was
+abbrev pub OnlyRead : (before after : Lent) → Type 0
+OnlyRead before after = (after.frames.now ≡ before.frames.now) × (after.references.now ≡ before.references.now)
 
-abbrev pub LocalFinished : Walked → (out out' diagnostics diagnostics' locals locals' frames captures captures' references : List ℕ) → Limits → AnalysisStack
-    → (place kept before next : ℕ) → Type 0
-LocalFinished r out out' diagnostics diagnostics' locals locals' frames captures captures' references l st place kept before next =
-    Walks r l (buffers out diagnostics locals frames captures references) (buffers out' diagnostics' locals' frames captures' references) st
-    (λ limits. finished_local limits place kept before next)
+abbrev pub FrameFinished : Step → (b b' : Buffers) → Limits → AnalysisStack → (place kept before : ℕ) → Type 0
+FrameFinished r b b' l st place kept before = Steps r l b b' st (λ limits. scoping.finish_frame limits place kept before)
+
+abbrev pub LocalFinished : Walked → (b b' : Buffers) → Limits → AnalysisStack → (place kept before next : ℕ) → Type 0
+LocalFinished r b b' l st place kept before next = Walks r l b b' st (λ limits. finished_local limits place kept before next)
 
 -- whatever the object around has met of `$`
-abbrev pub ObjectFinished : Walked → (out out' diagnostics diagnostics' locals locals' frames captures captures' references : List ℕ) → Limits → AnalysisStack
-    → (place : ℕ) → (outermost self_used super_used : Bool) → (kept before assertions values : ℕ) → (is_static : Bool) → (next : ℕ) → Type 0
-ObjectFinished r out out' diagnostics diagnostics' locals locals' frames captures captures' references l st
-    place outermost self_used super_used kept before assertions values is_static next =
+abbrev pub ObjectFinished : Walked → (b b' : Buffers) → Limits → AnalysisStack → (place before : ℕ) → ObjectEnd → (next : ℕ) → Type 0
+ObjectFinished r b b' l st place before o next =
     (dollar_used : Bool)
-    → Walks r l (buffers out diagnostics locals frames captures references) (buffers out' diagnostics' locals' frames captures' references) st
-    (λ limits. finished_object limits place outermost (outer_use self_used super_used dollar_used) kept before assertions values is_static next)
+    → Walks r l b b' st
+    (λ limits. finished_object limits place o.outermost (outer_use o.self_used o.super_used dollar_used) o.kept before o.assertions o.values o.is_static next)
 
-abbrev pub FunctionFinished : Walked → (out out' diagnostics diagnostics' locals locals' frames captures captures' references : List ℕ) → Limits → AnalysisStack
-    → (place span start body_start kept before : ℕ) → (defaults : Bool) → Naming → (next : ℕ) → Type 0
-FunctionFinished r out out' diagnostics diagnostics' locals locals' frames captures captures' references l st
-    place span start body_start kept before defaults naming next =
-    Walks r l (buffers out diagnostics locals frames captures references) (buffers out' diagnostics' locals' frames captures' references) st
-    (λ limits. finished_function limits place (span_of span) start body_start kept before defaults (naming_of naming) next)
+abbrev pub FunctionFinished : Walked → (b b' : Buffers) → Limits → AnalysisStack → (place before : ℕ) → FunctionEnd → Naming → (next : ℕ) → Type 0
+FunctionFinished r b b' l st place before f naming next =
+    Walks r l b b' st
+    (λ limits. finished_function limits place (span_of f.span) f.start f.body_start f.kept before f.defaults (naming_of naming) next)

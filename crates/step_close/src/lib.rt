@@ -4,10 +4,11 @@
 
 ghost use Rattle.std.specs.Prelude.{◌≡◌, ◌*◌, ◌≤◌, length, take, drop};
 ghost use Rattle.law_runs.specs.Steps.{gives_argument};
-ghost use Rattle.step_close.specs.Answers.{ForgottenNames, Finishable, FrameFinished, LocalFinished, ObjectFinished, FunctionFinished};
+ghost use Rattle.state.specs.Seen.{contents, SameBuffers};
+ghost use Rattle.step_close.specs.Answers.{ForgottenNames, Finishable, OnlyRead, FrameFinished, LocalFinished, ObjectFinished, FunctionFinished};
 
 use settling::Use;
-use state::{AnalysisStack, Limits, Naming, Step, Walked};
+use state::{AnalysisStack, Lent, Limits, Naming, Step, Walked};
 use step_frame::close_frame;
 use step_judge::{judge_all, settle_frame};
 use step_locals::first_in_frame;
@@ -28,43 +29,32 @@ fn forget_names(frames: &[u32], st: AnalysisStack, before: u32) -> AnalysisStack
 }
 
 // The frame on top ends: its names are settled, judged and forgotten, and its shape is written.
+// The buffers are passed one by one, and not as `Lent`, so that the types say which of them stay as they are.
 pub fn finish_frame(
-    out: &mut [u8],
-    diagnostics: &mut [u8],
-    locals: &mut [u32],
-    frames: &[u32],
-    captures: &mut [u32],
-    references: &[u32],
+    lent: &mut Lent<'_>,
     limits: Limits,
     st: AnalysisStack,
     at: usize,
     kept: u32,
     before: u32,
 ) -> Step
-    requires { Finishable out.old diagnostics.old locals.old frames.now captures.old references.now limits st kept
-        before }
-    ensures { FrameFinished result out.old out.new diagnostics.old diagnostics.new locals.old locals.new frames.now
-        captures.old captures.new references.now limits st at kept before }
+    requires { Finishable (contents lent.old) limits st kept before }
+    ensures finished { FrameFinished result (contents lent.old) (contents lent.new) limits st at kept before }
+    ensures same_buffers { SameBuffers lent.old lent.new }
+    ensures only_read { OnlyRead lent.old lent.new }
 {
+    let locals = &mut *lent.locals;
+    let references = &mut *lent.references;
+    let frames = &mut *lent.frames;
     let settled = settle_frame::<Use>(locals, references, st, kept, before);
-    let after = judge_all(diagnostics, locals, frames, settled, at)?;
-    close_frame(
-        out,
-        frames,
-        captures,
-        forget_names(frames, after, before),
-        at,
-    )
+    let after = judge_all(lent.diagnostics, locals, frames, settled, at)?;
+    let forgotten = forget_names(frames, after, before);
+    close_frame(lent.out, frames, lent.captures, forgotten, at)
 }
 
 // The end of a local's frame, and its record.
 pub fn finish_local(
-    out: &mut [u8],
-    diagnostics: &mut [u8],
-    locals: &mut [u32],
-    frames: &[u32],
-    captures: &mut [u32],
-    references: &[u32],
+    lent: &mut Lent<'_>,
     limits: Limits,
     st: AnalysisStack,
     at: usize,
@@ -72,35 +62,18 @@ pub fn finish_local(
     before: u32,
     next: usize,
 ) -> Walked
-    requires { Finishable out.old diagnostics.old locals.old frames.now captures.old references.now limits st kept
-        before }
-    ensures { LocalFinished result out.old out.new diagnostics.old diagnostics.new locals.old locals.new frames.now
-        captures.old captures.new references.now limits st at kept before next }
+    requires { Finishable (contents lent.old) limits st kept before }
+    ensures finished { LocalFinished result (contents lent.old) (contents lent.new) limits st at kept before next }
+    ensures same_buffers { SameBuffers lent.old lent.new }
+    ensures only_read { OnlyRead lent.old lent.new }
 {
-    let after = finish_frame(
-        out,
-        diagnostics,
-        locals,
-        frames,
-        captures,
-        references,
-        limits,
-        st,
-        at,
-        kept,
-        before,
-    )?;
-    Ok((emit(out, after, at, b"LO", &[kept])?, next))
+    let after = finish_frame(lent, limits, st, at, kept, before)?;
+    Ok((emit(lent.out, after, at, b"LO", &[kept])?, next))
 }
 
 // The end of an object's frame, and its record.
 pub fn finish_object(
-    out: &mut [u8],
-    diagnostics: &mut [u8],
-    locals: &mut [u32],
-    frames: &[u32],
-    captures: &mut [u32],
-    references: &[u32],
+    lent: &mut Lent<'_>,
     limits: Limits,
     st: AnalysisStack,
     at: usize,
@@ -108,26 +81,13 @@ pub fn finish_object(
     object: ObjectEnd,
     next: usize,
 ) -> Walked
-    requires { Finishable out.old diagnostics.old locals.old frames.now captures.old references.now limits st
-        object.kept before }
-    ensures { ObjectFinished result out.old out.new diagnostics.old diagnostics.new locals.old locals.new frames.now
-        captures.old captures.new references.now limits st at object.outermost object.self_used object.super_used
-        object.kept before object.assertions object.values object.is_static next }
+    requires { Finishable (contents lent.old) limits st object.kept before }
+    ensures finished { ObjectFinished result (contents lent.old) (contents lent.new) limits st at before object next }
+    ensures same_buffers { SameBuffers lent.old lent.new }
+    ensures only_read { OnlyRead lent.old lent.new }
 {
-    let after = finish_frame(
-        out,
-        diagnostics,
-        locals,
-        frames,
-        captures,
-        references,
-        limits,
-        st,
-        at,
-        object.kept,
-        before,
-    )?;
-    Ok((leave_object(out, after, at, object)?, next))
+    let after = finish_frame(lent, limits, st, at, object.kept, before)?;
+    Ok((leave_object(lent.out, after, at, object)?, next))
 }
 
 // Whether a function keeps one parameter, with no default, and its body is the record of that one's slot.
@@ -143,12 +103,7 @@ fn gives_argument(out: &[u8], st: AnalysisStack, function: FunctionEnd) -> bool
 
 // The end of a function's frame, and its record.
 pub fn finish_function(
-    out: &mut [u8],
-    diagnostics: &mut [u8],
-    locals: &mut [u32],
-    frames: &[u32],
-    captures: &mut [u32],
-    references: &[u32],
+    lent: &mut Lent<'_>,
     limits: Limits,
     st: AnalysisStack,
     at: usize,
@@ -157,28 +112,25 @@ pub fn finish_function(
     naming: Naming,
     next: usize,
 ) -> Walked
-    requires { Finishable out.old diagnostics.old locals.old frames.now captures.old references.now limits st
-        function.kept before }
-    ensures { FunctionFinished result out.old out.new diagnostics.old diagnostics.new locals.old locals.new frames.now
-        captures.old captures.new references.now limits st at function.span function.start function.body_start
-        function.kept before function.defaults naming next }
+    requires { Finishable (contents lent.old) limits st function.kept before }
+    ensures finished { FunctionFinished result (contents lent.old) (contents lent.new) limits st at before function
+        naming next }
+    ensures same_buffers { SameBuffers lent.old lent.new }
+    ensures only_read { OnlyRead lent.old lent.new }
 {
+    let out = &mut *lent.out;
     let gives = gives_argument(out, st, function);
-    let after = finish_frame(
-        out,
-        diagnostics,
-        locals,
-        frames,
-        captures,
-        references,
-        limits,
-        st,
-        at,
-        function.kept,
-        before,
-    )?;
+    let after = finish_frame(lent, limits, st, at, function.kept, before)?;
     Ok((
-        name_function(out, diagnostics, after, at, function, naming, gives)?,
+        name_function(
+            lent.out,
+            lent.diagnostics,
+            after,
+            at,
+            function,
+            naming,
+            gives,
+        )?,
         next,
     ))
 }

@@ -117,6 +117,7 @@ fn after_param(tree: &[u8], at: usize) -> usize
 }
 
 // The names of n parameters.
+// Apart from `define_binds`: one function for both would need the step past a name passed in, with its contract.
 pub fn define_params(
     tree: &[u8],
     diagnostics: &mut [u8],

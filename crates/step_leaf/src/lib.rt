@@ -40,6 +40,7 @@ pub fn on_leaf(
         (contents lent.new) st (λ limits σ. run_items
         tree.now limits nest 1 at (place_of here) σ) }
     ensures same_buffers { SameBuffers lent.old lent.new }
+    ensures unwritten { (lent.new.frames.now ≡ lent.old.frames.now) × (lent.new.references.now ≡ lent.old.references.now) }
 {
     match mark {
         TV => copy_record(tree, lent.out, st, at, at + offsets::TV_SIZE, TV),

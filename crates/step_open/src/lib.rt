@@ -57,6 +57,7 @@ pub fn begin_local(
 }
 
 // The frame of the `FN` at an offset, and the names of its n parameters.
+// Apart from `begin_local`: only the first line is the same, and one function for both would be passed the second.
 pub fn begin_function(
     tree: &[u8],
     diagnostics: &mut [u8],

@@ -20,7 +20,18 @@ use value_local::LocalId;
 #[derive(Clone, Copy, Debug, PartialEq, Eq)]
 pub enum Spec {
     Bind,
-    Param(u32, u32),
+    Param(u32, bool),
+}
+
+// A spec whose value is done. The slots of its frame before `base` are not for specs, and `kept` of them are kept so far; the
+// output had `start` bytes before the value, and what encloses it depended on `outer`.
+#[derive(Clone, Copy, Debug, PartialEq, Eq)]
+pub struct SpecEnd {
+    pub base: u32,
+    pub kept: u32,
+    pub start: usize,
+    pub outer: AnalysisResult,
+    pub spec: Spec,
 }
 
 // What encloses a value depends on what the value does; `outer` is what that depended on before.
@@ -46,7 +57,9 @@ fn write_spec(out: &mut [u8], st: AnalysisStack, at: usize, spec: Spec, slot: u3
 {
     match spec {
         Spec::Bind => emit(out, st, at, b"BV", &[slot]),
-        Spec::Param(name, flag) => emit(out, st, at, b"PA", &[name, slot, flag]),
+        Spec::Param(name, has_default) => {
+            emit(out, st, at, b"PA", &[name, slot, has_default as u32])
+        }
     }
 }
 
@@ -83,8 +96,7 @@ fn id_of(first: u32, slot: u32, locals: u32) -> LocalId
     LocalId(first + slot)
 }
 
-// A spec's value is done: it is kept where the next of its frame's slots is its own, and else dropped. The slots before `base`
-// are not for specs; the output had `start` bytes before the value.
+// A spec is kept where the next of its frame's slots is its own, and else dropped.
 pub fn record_spec_init(
     out: &mut [u8],
     locals: &mut [u32],
@@ -93,28 +105,24 @@ pub fn record_spec_init(
     limits: Limits,
     st: AnalysisStack,
     at: usize,
-    base: u32,
-    kept: u32,
-    start: usize,
-    outer: AnalysisResult,
-    spec: Spec,
+    end: SpecEnd,
     next: usize,
 ) -> Specs
-    requires { Keepable limits locals.old frames.now references.old st × (base + kept + 1 < 4294967296) × (start ≤
+    requires { Keepable limits locals.old frames.now references.old st × (end.base + end.kept + 1 < 4294967296) × (end.start ≤
         st.out) }
     ensures { SpecRecorded result out.old out.new locals.old locals.new references.old references.new frames.now
-        limits st at base kept start outer spec next }
+        limits st at end.base end.kept end.start end.outer end.spec next }
 {
-    let slot = base + kept;
+    let slot = end.base + end.kept;
     if is_kept(locals, frames, st, at, slot) {
         let id = id_of(first_in_frame(frames, st), slot, st.locals);
         let done = keep_spec(
-            out, locals, references, frames, limits, st, at, id, slot, outer, spec,
+            out, locals, references, frames, limits, st, at, id, slot, end.outer, end.spec,
         )?;
-        return Ok((done, next, kept + 1));
+        return Ok((done, next, end.kept + 1));
     }
-    let tainted = taint_outer(st, outer);
-    Ok((drop_spec(tainted, start), next, kept))
+    let tainted = taint_outer(st, end.outer);
+    Ok((drop_spec(tainted, end.start), next, end.kept))
 }
 
 // The value's frame closes, and the spec is kept or dropped.
@@ -127,20 +135,16 @@ pub fn close_spec(
     limits: Limits,
     st: AnalysisStack,
     at: usize,
-    base: u32,
-    kept: u32,
-    start: usize,
-    outer: AnalysisResult,
-    spec: Spec,
+    end: SpecEnd,
     next: usize,
 ) -> Specs
-    requires { Keepable limits locals.old frames.now references.old st × (base + kept + 1 < 4294967296) × (start ≤
+    requires { Keepable limits locals.old frames.now references.old st × (end.base + end.kept + 1 < 4294967296) × (end.start ≤
         st.out) × (st.out ≤ length out.old) × (Kept st.frames frames.now st.captures captures.old) }
     ensures { SpecClosed result out.old out.new locals.old locals.new references.old references.new frames.now
-        captures.old captures.new limits st at base kept start outer spec next }
+        captures.old captures.new limits st at end.base end.kept end.start end.outer end.spec next }
 {
     let after = close_frame(out, frames, captures, st, at)?;
     record_spec_init(
-        out, locals, references, frames, limits, after, at, base, kept, start, outer, spec, next,
+        out, locals, references, frames, limits, after, at, end, next,
     )
 }

@@ -29,7 +29,7 @@ use step_open::{begin_function, begin_local, begin_object, open_value};
 use step_place::{bind_naming, deeper, head_naming, in_object};
 use step_record::{FunctionEnd, ObjectEnd};
 use step_shape::{close_array, close_assertions, close_value};
-use step_spec::{Spec, close_spec, record_spec_init};
+use step_spec::{Spec, SpecEnd, close_spec, record_spec_init};
 use step_static::is_static;
 use value_depths::AnalysisResult;
 
@@ -199,22 +199,7 @@ fn on_local(
         Naming::Unnamed,
         deeper(here),
     )?;
-    let frames = &mut *lent.frames;
-    let references = &mut *lent.references;
-    finish_local(
-        lent.out,
-        lent.diagnostics,
-        lent.locals,
-        frames,
-        lent.captures,
-        references,
-        limits,
-        after,
-        at,
-        kept,
-        before,
-        next,
-    )
+    finish_local(lent, limits, after, at, kept, before, next)
 }
 
 // `FN`: parameters and a body.
@@ -280,23 +265,7 @@ fn on_function(
         kept,
         defaults,
     };
-    let frames = &mut *lent.frames;
-    let references = &mut *lent.references;
-    finish_function(
-        lent.out,
-        lent.diagnostics,
-        lent.locals,
-        frames,
-        lent.captures,
-        references,
-        limits,
-        after,
-        at,
-        before,
-        function,
-        naming,
-        next,
-    )
+    finish_function(lent, limits, after, at, before, function, naming, next)
 }
 
 // `OB`: heads in the scope outside, then binds, assertions and values inside.
@@ -399,22 +368,7 @@ fn on_members(
         values: fields,
         is_static: is_static(tree, object + offsets::OB_SIZE, fields),
     };
-    let frames = &mut *lent.frames;
-    let references = &mut *lent.references;
-    finish_object(
-        lent.out,
-        lent.diagnostics,
-        lent.locals,
-        frames,
-        lent.captures,
-        references,
-        limits,
-        after,
-        object,
-        before,
-        end,
-        next,
-    )
+    finish_object(lent, limits, after, object, before, end, next)
 }
 
 // The assertions and the values of the object at `object`.
@@ -757,11 +711,13 @@ fn on_bind(
         limits,
         after,
         at,
-        base,
-        kept,
-        st.out,
-        st.taint,
-        Spec::Bind,
+        SpecEnd {
+            base,
+            kept,
+            start: st.out,
+            outer: st.taint,
+            spec: Spec::Bind,
+        },
         next,
     )
 }
@@ -829,11 +785,13 @@ fn on_param(
             limits,
             fresh,
             at,
-            0,
-            kept,
-            st.out,
-            st.taint,
-            Spec::Param(name, 0),
+            SpecEnd {
+                base: 0,
+                kept,
+                start: st.out,
+                outer: st.taint,
+                spec: Spec::Param(name, false),
+            },
             at + offsets::PA_SIZE,
         );
     }
@@ -858,11 +816,13 @@ fn on_param(
         limits,
         after,
         at,
-        0,
-        kept,
-        st.out,
-        st.taint,
-        Spec::Param(name, 1),
+        SpecEnd {
+            base: 0,
+            kept,
+            start: st.out,
+            outer: st.taint,
+            spec: Spec::Param(name, true),
+        },
         next,
     )
 }

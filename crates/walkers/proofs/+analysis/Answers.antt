@@ -1,16 +1,15 @@
 -- The one proof of the cycle: the measures, and what each member's module shows. Assumes nothing.
-use Rattle.std.proofs.Common.{[], ap, arith, false, refl, rules, subst, sym, ℕ, ⊎_elim, ◌+◌, ◌-◌, ◌∙◌, ◌≡◌}
+use Rattle.std.proofs.Common.{ap, arith, false, refl, rules, subst, sym, ℕ, ⊎_elim, ◌+◌, ◌-◌, ◌∙◌, ◌≡◌}
 use Rattle.rules.specs.Numbers.{code, code_at}
 use Rattle.state.specs.Walks.{place_of, naming_of}
 use Rattle.step_leaf.proofs.Laws.{rank_one, leaf_item, leaf_answered, no_identity, no_constant, no_variable, no_import, rank_falls, rank_more}
-use Rattle.rules.specs.FirstWalk.{any_expression}
 use Rattle.law_runs.specs.Run.{Accepted, items_at, run_items}
-use Rattle.law_runs.proofs.Expressions.{array_size, constants_size, array_items, function_size, function_first_size, local_size, local_only_body, object_size}
+use Rattle.law_runs.proofs.Expressions.{constants_size, array_items, function_first_size, local_only_body}
 use Rattle.law_joins.proofs.Joining.{walks_on, specs_on, went_fit, kept_fit}
 use Rattle.law_joins.proofs.Readiness.{ready_on}
 use Rattle.law_joins.proofs.Onward.{ready_opened, ready_value, longer_value, ready_assertions, ready_function, ready_expr, ready_local, ready_object, ready_settled, ready_heads}
 use Rattle.law_joins.proofs.Asking.{opened, written_counted, fitting, references_counted, settleable}
-use Rattle.law_joins.proofs.Returns.{told, array_constant, array_unopened, array_stopped, array_ended, assertions_nothing, assertions_unopened, assertions_stopped, assertions_ended, bind_unopened, bind_stopped, bind_ended, fields_stopped, fields_ended, function_unbegun, function_params_stopped, function_body_stopped, function_ended, head_alone, head_stopped, head_ended, the_holder, held_first_stopped, held_one_ended, held_second_stopped, held_two_ended, item_plain, local_only, local_unbegun, local_binds_stopped, local_body_stopped, local_ended, members_unbegun, members_binds_stopped, members_fields_stopped, members_ended, object_heads_stopped, object_ended, param_alone, param_unopened, param_stopped, param_ended, plain_stopped, plain_ended, value_unopened, value_stopped, value_ended}
+use Rattle.law_joins.proofs.Returns.{told, array_constant, array_unopened, array_stopped, array_ended, assertions_nothing, assertions_unopened, assertions_stopped, assertions_ended, bind_unopened, bind_stopped, bind_ended, fields_stopped, fields_ended, function_unbegun, function_params_stopped, function_body_stopped, function_ended, head_alone, head_stopped, head_ended, held_first_stopped, held_one_ended, held_second_stopped, held_two_ended, item_plain, local_only, local_unbegun, local_binds_stopped, local_body_stopped, local_ended, members_unbegun, members_binds_stopped, members_fields_stopped, members_ended, object_heads_stopped, object_ended, param_alone, param_unopened, param_stopped, param_ended, plain_stopped, plain_ended, value_unopened, value_stopped, value_ended}
 use Rattle.law_runs.proofs.Lists.{bind_fits, bind_value, binds_short, head_fits, head_name, param_fits, param_default, params_short, value_there, value_head_fits}
 use Rattle.state.specs.Seen.{stack, contents}
 use Rattle.step_spec.specs.Answers.{spec_mark, spec_numbers}
@@ -23,7 +22,6 @@ use Rattle.law_joins.specs.Ready.{an_argument, a_part, an_assertion}
 use Rattle.step_leaf.specs.Leaves.{is_leaf}
 use Rattle.step_place.proofs.Laws.{outermost_so}
 use Rattle.step_open.proofs.Laws.{stack_depending, fit_depending}
-use Rattle.rules.specs.Walk as walk
 use Rattle.walkers.proofs.Beginning.{local_begun, function_begun, members_begun, place_inside}
 use Rattle.walkers.proofs.+analysis.Goals as goal
 
@@ -274,7 +272,7 @@ on_function-finish_function-requires t c =
 pub on_function-returns-clause-walks : goal.on_function-returns-clause-walks
 unfolding place_of naming_of
 on_function-returns-clause-walks t c =
-    function_ended c.requires.there (naming_of c.args.naming) (place_of c.args.here) c.number_at-n.ensures (function_begun c.begin_function.ensures c.requires.ready c.requires.there c.number_at-n.ensures) c.in_ok-inside.was (record { out = refl; diagnostics = c.begin_function.auto.diagnostics }) c.on_params.ensures.walks c.in_ok-known.was (long_kept c.on_params.ensures.same_buffers) (sym (references_counted (contents c.args.lent.now) c.args.st)) (c.settle_frame-settled.ensures.becomes _ _ _ _ _ (kept_fit c.on_params.ensures.walks c.in_ok-known.was)) long_same c.deeper.ensures.same c.analyze.ensures.walks c.in_ok-after.was (long_kept c.analyze.ensures.same_buffers) c.number_at.ensures (written_counted _ _ c.requires.ready.fit) (written_counted _ _ (kept_fit c.on_params.ensures.walks c.in_ok-known.was)) c.first_defaults-defaults.ensures c.finish_function.ensures
+    function_ended c.requires.there (naming_of c.args.naming) (place_of c.args.here) c.number_at-n.ensures (function_begun c.begin_function.ensures c.requires.ready c.requires.there c.number_at-n.ensures) c.in_ok-inside.was (record { out = refl; diagnostics = c.begin_function.auto.diagnostics }) c.on_params.ensures.walks c.in_ok-known.was (long_kept c.on_params.ensures.same_buffers) (sym (references_counted (contents c.args.lent.now) c.args.st)) (c.settle_frame-settled.ensures.becomes _ _ _ _ _ (kept_fit c.on_params.ensures.walks c.in_ok-known.was)) long_same c.deeper.ensures.same c.analyze.ensures.walks c.in_ok-after.was (long_kept c.analyze.ensures.same_buffers) c.number_at.ensures (written_counted _ _ c.requires.ready.fit) (written_counted _ _ (kept_fit c.on_params.ensures.walks c.in_ok-known.was)) c.first_defaults-defaults.ensures c.finish_function.ensures.finished
 
 pub on_head-overflow_add-at : goal.on_head-overflow_add-at
 on_head-overflow_add-at t c = omega (arith, (head_fits c.args.tree.now c.args.nest c.args.at c.requires.accepted), c.requires.ready.short)
@@ -503,7 +501,7 @@ on_local-finish_local-requires t c =
 pub on_local-returns-clause-walks : goal.on_local-returns-clause-walks
 unfolding place_of naming_of
 on_local-returns-clause-walks t c =
-    λ ν. local_ended c.requires.there ν (place_of c.args.here) c.number_at-n.ensures c.if-n-eq0.false (local_begun c.begin_local.ensures c.requires.ready c.requires.there c.number_at-n.ensures) c.in_ok-inside.was (record { out = refl; diagnostics = c.begin_local.auto.diagnostics }) c.on_binds.ensures.walks c.in_ok-known.was (long_kept c.on_binds.ensures.same_buffers) (sym (references_counted (contents c.args.lent.now) c.args.st)) (c.settle_frame-settled.ensures.becomes _ _ _ _ _ (kept_fit c.on_binds.ensures.walks c.in_ok-known.was)) long_same c.deeper.ensures.same c.analyze-2.ensures.walks c.in_ok-after.was (long_kept c.analyze-2.ensures.same_buffers) c.finish_local.ensures
+    λ ν. local_ended c.requires.there ν (place_of c.args.here) c.number_at-n.ensures c.if-n-eq0.false (local_begun c.begin_local.ensures c.requires.ready c.requires.there c.number_at-n.ensures) c.in_ok-inside.was (record { out = refl; diagnostics = c.begin_local.auto.diagnostics }) c.on_binds.ensures.walks c.in_ok-known.was (long_kept c.on_binds.ensures.same_buffers) (sym (references_counted (contents c.args.lent.now) c.args.st)) (c.settle_frame-settled.ensures.becomes _ _ _ _ _ (kept_fit c.on_binds.ensures.walks c.in_ok-known.was)) long_same c.deeper.ensures.same c.analyze-2.ensures.walks c.in_ok-after.was (long_kept c.analyze-2.ensures.same_buffers) c.finish_local.ensures.finished
 
 pub on_members-overflow_add-object : goal.on_members-overflow_add-object
 on_members-overflow_add-object t c = omega (arith, object_fits c.requires.members_there.there, c.requires.ready.short)
@@ -562,7 +560,7 @@ on_members-finish_object-requires t c =
 pub on_members-returns-clause-walks : goal.on_members-returns-clause-walks
 unfolding stack
 on_members-returns-clause-walks t c =
-    members_ended c.args.tree.now c.args.nest c.args.at c.args.object (place_of c.args.here) c.number_at-n.ensures (members_begun c.begin_object.ensures c.requires.ready c.requires.members_there c.number_at-n.ensures) c.in_ok-opened.was (record { out = refl; diagnostics = c.begin_object.auto.diagnostics }) (place_inside (contents c.args.lent.now) c.args.st c.in_object-inside.ensures) c.on_binds.ensures.walks c.in_ok-known.was (long_kept c.on_binds.ensures.same_buffers) (sym (references_counted (contents c.args.lent.now) c.args.st)) (c.settle_frame-settled.ensures.becomes _ _ _ _ _ (kept_fit c.on_binds.ensures.walks c.in_ok-known.was)) long_same c.deeper.ensures.same c.on_fields.ensures.walks c.in_ok-after.was (long_kept c.on_fields.ensures.same_buffers) refl (sym (outermost_so c.args.here)) c.number_at.ensures c.number_at-fields.ensures (static_told c.requires.members_there c.number_at-fields.ensures c.is_static.ensures) (c.finish_object.ensures c.args.st.dollar_used)
+    members_ended c.args.tree.now c.args.nest c.args.at c.args.object (place_of c.args.here) c.number_at-n.ensures (members_begun c.begin_object.ensures c.requires.ready c.requires.members_there c.number_at-n.ensures) c.in_ok-opened.was (record { out = refl; diagnostics = c.begin_object.auto.diagnostics }) (place_inside (contents c.args.lent.now) c.args.st c.in_object-inside.ensures) c.on_binds.ensures.walks c.in_ok-known.was (long_kept c.on_binds.ensures.same_buffers) (sym (references_counted (contents c.args.lent.now) c.args.st)) (c.settle_frame-settled.ensures.becomes _ _ _ _ _ (kept_fit c.on_binds.ensures.walks c.in_ok-known.was)) long_same c.deeper.ensures.same c.on_fields.ensures.walks c.in_ok-after.was (long_kept c.on_fields.ensures.same_buffers) refl (sym (outermost_so c.args.here)) c.number_at.ensures c.number_at-fields.ensures (static_told c.requires.members_there c.number_at-fields.ensures c.is_static.ensures) (c.finish_object.ensures.finished c.args.st.dollar_used)
 
 pub on_object-overflow_add-at : goal.on_object-overflow_add-at
 on_object-overflow_add-at t c = omega (arith, object_fits c.requires.there, c.requires.ready.short)
