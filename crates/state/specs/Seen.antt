@@ -14,6 +14,7 @@ use Rattle.state.specs.declared.AnalysisStack.{AnalysisStack}
 use Rattle.state.specs.declared.Limits.{Limits}
 use Rattle.refusal.specs.declared.Refusal.{Refusal}
 use Rattle.state.specs.declared.Lent.{Lent}
+use Rattle.state.specs.declared.Within.{Within}
 
 -- the answers of steps and walks, by their names in the code
 
@@ -51,6 +52,21 @@ SameBuffers before after =
     × (after.frames.ghost_name ≡ before.frames.ghost_name) × (length after.frames.now ≡ length before.frames.now)
     × (after.captures.ghost_name ≡ before.captures.ghost_name) × (length after.captures.now ≡ length before.captures.now)
     × (after.references.ghost_name ≡ before.references.ghost_name) × (length after.references.now ≡ length before.references.now)
+
+-- the same two of what is lent to a step that only reads frames and references
+abbrev pub contents_within : Within → Buffers
+contents_within w = buffers w.out.now w.diagnostics.now w.locals.now w.frames.now w.captures.now w.references.now
+
+abbrev pub SameWithin : Within → Within → Type 0
+SameWithin before after =
+    (after.out.ghost_name ≡ before.out.ghost_name) × (length after.out.now ≡ length before.out.now)
+    × (after.diagnostics.ghost_name ≡ before.diagnostics.ghost_name) × (length after.diagnostics.now ≡ length before.diagnostics.now)
+    × (after.locals.ghost_name ≡ before.locals.ghost_name) × (length after.locals.now ≡ length before.locals.now)
+    × (after.captures.ghost_name ≡ before.captures.ghost_name) × (length after.captures.now ≡ length before.captures.now)
+
+-- and these two stay as they were
+abbrev pub OnlyRead : (before after : Within) → Type 0
+OnlyRead before after = (after.frames.now ≡ before.frames.now) × (after.references.now ≡ before.references.now)
 
 -- a span by its number, as the code has it
 abbrev pub span_of : ℕ → Span

@@ -7,21 +7,22 @@ use value_depths::AnalysisResult;
 use value_local::LocalId;
 
 // How many entries of each table and how many bytes of each buffer are in use, what was met of the present object, what the
-// present value depends on, whether an error was reported, and the rounds so far.
+// present value depends on, whether an error was reported, and the rounds so far. `out` and `rounds` stand
+// first, where a refusal has its place and its reason: what lies under a reason of one byte is stored in parts, which `rounds` bears, since nothing waits for it.
 #[derive(Clone, Copy)]
 pub struct AnalysisStack {
+    pub out: usize,
+    pub rounds: u64,
     pub locals: u32,
     pub frames: u32,
     pub captures: u32,
     pub references: u32,
-    pub out: usize,
-    pub diagnostics: usize,
+    pub taint: AnalysisResult,
     pub self_used: bool,
     pub super_used: bool,
     pub dollar_used: bool,
     pub errored: bool,
-    pub taint: AnalysisResult,
-    pub rounds: u64,
+    pub diagnostics: usize,
 }
 
 // L, F, C and R.
@@ -42,6 +43,17 @@ pub struct Lent<'a> {
     pub frames: &'a mut [u32],
     pub captures: &'a mut [u32],
     pub references: &'a mut [u32],
+}
+
+// The same six, lent to a step that opens no frame and keeps no reference: those two tables are only read.
+#[derive(Drop)]
+pub struct Within<'a> {
+    pub out: &'a mut [u8],
+    pub diagnostics: &'a mut [u8],
+    pub locals: &'a mut [u32],
+    pub frames: &'a [u32],
+    pub captures: &'a mut [u32],
+    pub references: &'a [u32],
 }
 
 // The state after a step.

@@ -1,11 +1,10 @@
 -- What the steps at a defining frame's end answer and leave, whatever the buffers hold that a step does not touch. A primed list is what a
 -- step leaves of a buffer. Assumes nothing.
-use Rattle.std.specs.Prelude.{ℕ, ◌≤◌, Bool, List, ◌≡◌, take}
+use Rattle.std.specs.Prelude.{ℕ, ◌≤◌, Bool, List, take}
 use Rattle.rules.specs.State as rules
 use Rattle.rules.specs.Scoping as scoping
 use Rattle.law_runs.specs.Steps.{finished_local, finished_function, finished_object}
 use Rattle.state.specs.Seen.{span_of, Buffers, buffers, Fit}
-use Rattle.state.specs.declared.Lent.{Lent}
 use Rattle.step_record.specs.declared.ObjectEnd.{ObjectEnd}
 use Rattle.step_record.specs.declared.FunctionEnd.{FunctionEnd}
 use Rattle.state.specs.Walks.{naming_of, Walks, Steps, Becomes}
@@ -31,10 +30,6 @@ pub record ForgottenNames (r : AnalysisStack) (frames : List ℕ) (st : Analysis
 -- the state fits the buffers, and the frame's names can be settled
 abbrev pub Finishable : Buffers → Limits → AnalysisStack → (kept before : ℕ) → Type 0
 Finishable b l st kept before = Settleable b.locals b.references st kept before × Fit l b st
-
--- what the end of a frame only reads stays as it was
-abbrev pub OnlyRead : (before after : Lent) → Type 0
-OnlyRead before after = (after.frames.now ≡ before.frames.now) × (after.references.now ≡ before.references.now)
 
 abbrev pub FrameFinished : Step → (b b' : Buffers) → Limits → AnalysisStack → (place kept before : ℕ) → Type 0
 FrameFinished r b b' l st place kept before = Steps r l b b' st (λ limits. scoping.finish_frame limits place kept before)

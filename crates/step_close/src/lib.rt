@@ -4,11 +4,11 @@
 
 ghost use Rattle.std.specs.Prelude.{◌≡◌, ◌*◌, ◌≤◌, length, take, drop};
 ghost use Rattle.law_runs.specs.Steps.{gives_argument};
-ghost use Rattle.state.specs.Seen.{contents, SameBuffers};
-ghost use Rattle.step_close.specs.Answers.{ForgottenNames, Finishable, OnlyRead, FrameFinished, LocalFinished, ObjectFinished, FunctionFinished};
+ghost use Rattle.state.specs.Seen.{contents_within, SameWithin, OnlyRead};
+ghost use Rattle.step_close.specs.Answers.{ForgottenNames, Finishable, FrameFinished, LocalFinished, ObjectFinished, FunctionFinished};
 
 use settling::Use;
-use state::{AnalysisStack, Lent, Limits, Naming, Step, Walked};
+use state::{AnalysisStack, Limits, Naming, Step, Walked, Within};
 use step_frame::close_frame;
 use step_judge::{judge_all, settle_frame};
 use step_locals::first_in_frame;
@@ -29,32 +29,29 @@ fn forget_names(frames: &[u32], st: AnalysisStack, before: u32) -> AnalysisStack
 }
 
 // The frame on top ends: its names are settled, judged and forgotten, and its shape is written.
-// The buffers are passed one by one, and not as `Lent`, so that the types say which of them stay as they are.
 pub fn finish_frame(
-    lent: &mut Lent<'_>,
+    within: &mut Within<'_>,
     limits: Limits,
     st: AnalysisStack,
     at: usize,
     kept: u32,
     before: u32,
 ) -> Step
-    requires { Finishable (contents lent.old) limits st kept before }
-    ensures finished { FrameFinished result (contents lent.old) (contents lent.new) limits st at kept before }
-    ensures same_buffers { SameBuffers lent.old lent.new }
-    ensures only_read { OnlyRead lent.old lent.new }
+    requires { Finishable (contents_within within.old) limits st kept before }
+    ensures finished { FrameFinished result (contents_within within.old) (contents_within within.new) limits st at kept before }
+    ensures same_buffers { SameWithin within.old within.new }
+    ensures only_read { OnlyRead within.old within.new }
 {
-    let locals = &mut *lent.locals;
-    let references = &mut *lent.references;
-    let frames = &mut *lent.frames;
-    let settled = settle_frame::<Use>(locals, references, st, kept, before);
-    let after = judge_all(lent.diagnostics, locals, frames, settled, at)?;
-    let forgotten = forget_names(frames, after, before);
-    close_frame(lent.out, frames, lent.captures, forgotten, at)
+    let locals = &mut *within.locals;
+    let settled = settle_frame::<Use>(locals, within.references, st, kept, before);
+    let after = judge_all(within.diagnostics, locals, within.frames, settled, at)?;
+    let forgotten = forget_names(within.frames, after, before);
+    close_frame(within.out, within.frames, within.captures, forgotten, at)
 }
 
 // The end of a local's frame, and its record.
 pub fn finish_local(
-    lent: &mut Lent<'_>,
+    within: &mut Within<'_>,
     limits: Limits,
     st: AnalysisStack,
     at: usize,
@@ -62,18 +59,18 @@ pub fn finish_local(
     before: u32,
     next: usize,
 ) -> Walked
-    requires { Finishable (contents lent.old) limits st kept before }
-    ensures finished { LocalFinished result (contents lent.old) (contents lent.new) limits st at kept before next }
-    ensures same_buffers { SameBuffers lent.old lent.new }
-    ensures only_read { OnlyRead lent.old lent.new }
+    requires { Finishable (contents_within within.old) limits st kept before }
+    ensures finished { LocalFinished result (contents_within within.old) (contents_within within.new) limits st at kept before next }
+    ensures same_buffers { SameWithin within.old within.new }
+    ensures only_read { OnlyRead within.old within.new }
 {
-    let after = finish_frame(lent, limits, st, at, kept, before)?;
-    Ok((emit(lent.out, after, at, b"LO", &[kept])?, next))
+    let after = finish_frame(within, limits, st, at, kept, before)?;
+    Ok((emit(within.out, after, at, b"LO", &[kept])?, next))
 }
 
 // The end of an object's frame, and its record.
 pub fn finish_object(
-    lent: &mut Lent<'_>,
+    within: &mut Within<'_>,
     limits: Limits,
     st: AnalysisStack,
     at: usize,
@@ -81,13 +78,13 @@ pub fn finish_object(
     object: ObjectEnd,
     next: usize,
 ) -> Walked
-    requires { Finishable (contents lent.old) limits st object.kept before }
-    ensures finished { ObjectFinished result (contents lent.old) (contents lent.new) limits st at before object next }
-    ensures same_buffers { SameBuffers lent.old lent.new }
-    ensures only_read { OnlyRead lent.old lent.new }
+    requires { Finishable (contents_within within.old) limits st object.kept before }
+    ensures finished { ObjectFinished result (contents_within within.old) (contents_within within.new) limits st at before object next }
+    ensures same_buffers { SameWithin within.old within.new }
+    ensures only_read { OnlyRead within.old within.new }
 {
-    let after = finish_frame(lent, limits, st, at, object.kept, before)?;
-    Ok((leave_object(lent.out, after, at, object)?, next))
+    let after = finish_frame(within, limits, st, at, object.kept, before)?;
+    Ok((leave_object(within.out, after, at, object)?, next))
 }
 
 // Whether a function keeps one parameter, with no default, and its body is the record of that one's slot.
@@ -103,7 +100,7 @@ fn gives_argument(out: &[u8], st: AnalysisStack, function: FunctionEnd) -> bool
 
 // The end of a function's frame, and its record.
 pub fn finish_function(
-    lent: &mut Lent<'_>,
+    within: &mut Within<'_>,
     limits: Limits,
     st: AnalysisStack,
     at: usize,
@@ -112,19 +109,19 @@ pub fn finish_function(
     naming: Naming,
     next: usize,
 ) -> Walked
-    requires { Finishable (contents lent.old) limits st function.kept before }
-    ensures finished { FunctionFinished result (contents lent.old) (contents lent.new) limits st at before function
+    requires { Finishable (contents_within within.old) limits st function.kept before }
+    ensures finished { FunctionFinished result (contents_within within.old) (contents_within within.new) limits st at before function
         naming next }
-    ensures same_buffers { SameBuffers lent.old lent.new }
-    ensures only_read { OnlyRead lent.old lent.new }
+    ensures same_buffers { SameWithin within.old within.new }
+    ensures only_read { OnlyRead within.old within.new }
 {
-    let out = &mut *lent.out;
+    let out = &mut *within.out;
     let gives = gives_argument(out, st, function);
-    let after = finish_frame(lent, limits, st, at, function.kept, before)?;
+    let after = finish_frame(within, limits, st, at, function.kept, before)?;
     Ok((
         name_function(
-            lent.out,
-            lent.diagnostics,
+            within.out,
+            within.diagnostics,
             after,
             at,
             function,

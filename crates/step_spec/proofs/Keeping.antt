@@ -9,7 +9,7 @@ use native.Mathlib.Omega.{arith}
 use lib.ListN.{length, take, drop, length-append, length-map, length-take, take-append-drop, get_or-eq_default}
 use lib.Seq.{length-take-le, take-take}
 use Rattle.rules.specs.Outcome.{Outcome, ok, refuse, ◌>>=◌, choose}
-use Rattle.rules.specs.Numbers.{Mark, BV, PA, SH, bit, code, mark_bytes, record_bytes}
+use Rattle.rules.specs.Numbers.{Mark, BV, PA, SH, code, mark_bytes, record_bytes}
 use Rattle.rules.specs.Depths as depths
 use Rattle.rules.specs.Frames.{ClosureFrame, top, beneath}
 use Rattle.rules.specs.Locals.{LocalDefinition, no_local, new_local, local_at, passed_on, without_notes, with_scratch_referenced}
@@ -73,10 +73,9 @@ module _ (r : Step) (out out' : List ℕ) (st : AnalysisStack) (place : ℕ) (sp
   unfolding spec_mark spec_numbers mark_bytes code
   bind_written e emitted = rw e (record { same = λ l ds ls fs cs rs. emitted.same BV refl l ds ls fs cs rs; fit = emitted.fit })
 
-  pub param_written : (name : ℕ) (has_default : Bool) → spec ≡ Param name has_default → Emitted r out out' st place (0x50 ∷ 0x41 ∷ []) (name ∷ slot ∷ bit has_default ∷ [])
-      → SpecWritten r out out' st place spec slot
+  pub param_written : (name flag : ℕ) → spec ≡ Param name flag → Emitted r out out' st place (0x50 ∷ 0x41 ∷ []) (name ∷ slot ∷ flag ∷ []) → SpecWritten r out out' st place spec slot
   unfolding spec_mark spec_numbers mark_bytes code
-  param_written name has_default e emitted = rw e (record { same = λ l ds ls fs cs rs. emitted.same PA refl l ds ls fs cs rs; fit = emitted.fit })
+  param_written name flag e emitted = rw e (record { same = λ l ds ls fs cs rs. emitted.same PA refl l ds ls fs cs rs; fit = emitted.fit })
 
 -- A spec that is kept
 

@@ -2,7 +2,7 @@
 -- A primed list is what a step leaves of a buffer. Assumes nothing.
 use Rattle.std.specs.Prelude.{ℕ, ◌+◌, ◌≤◌, List, [], ◌∷◌, ◌≡◌}
 use Rattle.rules.specs.Outcome.{Outcome, ok, ◌>>=◌}
-use Rattle.rules.specs.Numbers.{Mark, BV, PA, bit}
+use Rattle.rules.specs.Numbers.{Mark, BV, PA}
 use Rattle.rules.specs.Depths as depths
 use Rattle.rules.specs.State as rules
 use Rattle.rules.specs.Writing as writing
@@ -22,11 +22,11 @@ use Rattle.state.specs.Seen.{Step, Specs}
 -- the mark of a spec's record, and its numbers from its slot
 unfoldable pub spec_mark : Spec → Mark
 spec_mark Bind = BV
-spec_mark (Param name has_default) = PA
+spec_mark (Param name flag) = PA
 
 unfoldable pub spec_numbers : Spec → ℕ → List ℕ
 spec_numbers Bind = λ slot. slot ∷ []
-spec_numbers (Param name has_default) = λ slot. name ∷ slot ∷ bit has_default ∷ []
+spec_numbers (Param name flag) = λ slot. name ∷ slot ∷ flag ∷ []
 
 -- Specs whose values are done
 

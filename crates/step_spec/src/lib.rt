@@ -20,7 +20,7 @@ use value_local::LocalId;
 #[derive(Clone, Copy, Debug, PartialEq, Eq)]
 pub enum Spec {
     Bind,
-    Param(u32, bool),
+    Param(u32, u32),
 }
 
 // A spec whose value is done. The slots of its frame before `base` are not for specs, and `kept` of them are kept so far; the
@@ -57,9 +57,7 @@ fn write_spec(out: &mut [u8], st: AnalysisStack, at: usize, spec: Spec, slot: u3
 {
     match spec {
         Spec::Bind => emit(out, st, at, b"BV", &[slot]),
-        Spec::Param(name, has_default) => {
-            emit(out, st, at, b"PA", &[name, slot, has_default as u32])
-        }
+        Spec::Param(name, flag) => emit(out, st, at, b"PA", &[name, slot, flag]),
     }
 }
 

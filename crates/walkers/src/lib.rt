@@ -12,13 +12,14 @@ ghost use Rattle.state.specs.Walks.{place_of, naming_of, Walks, WalksSpecs};
 ghost use Rattle.law_runs.specs.Run.{Accepted, items_at, binds_at, params_at, heads_at, values_at};
 ghost use Rattle.law_runs.specs.Run.{run_expr, run_items, run_assertions, run_values, run_heads, run_binds, run_params};
 ghost use Rattle.law_runs.specs.Steps.{first_defaults};
+ghost use Rattle.step_leaf.specs.Leaves.{LeafThere};
 ghost use Rattle.law_joins.specs.Ready.{Ready, There, PlainThere, HeldThere, MembersThere, FieldsThere, fields_steps, members_steps};
 
 use bytes_read::{mark_at, number_at};
 use bytes_records::{AR, AT, FN, LO, NA, OB, PT, children, constants, offsets, size_of};
 use bytes_skip::after_head;
 use settling::Analysis;
-use state::{AnalysisStack, Lent, Limits, Naming, Place, Specs, Walked};
+use state::{AnalysisStack, Lent, Limits, Naming, Place, Specs, Walked, Within};
 use step_close::{finish_function, finish_local, finish_object};
 use step_copy::{copy_record, emit_constants};
 use step_emit::emit_head;
@@ -199,7 +200,17 @@ fn on_local(
         Naming::Unnamed,
         deeper(here),
     )?;
-    finish_local(lent, limits, after, at, kept, before, next)
+    let frames = &mut *lent.frames;
+    let references = &mut *lent.references;
+    let mut within = Within {
+        out: lent.out,
+        diagnostics: lent.diagnostics,
+        locals: lent.locals,
+        frames,
+        captures: lent.captures,
+        references,
+    };
+    finish_local(&mut within, limits, after, at, kept, before, next)
 }
 
 // `FN`: parameters and a body.
@@ -265,7 +276,26 @@ fn on_function(
         kept,
         defaults,
     };
-    finish_function(lent, limits, after, at, before, function, naming, next)
+    let frames = &mut *lent.frames;
+    let references = &mut *lent.references;
+    let mut within = Within {
+        out: lent.out,
+        diagnostics: lent.diagnostics,
+        locals: lent.locals,
+        frames,
+        captures: lent.captures,
+        references,
+    };
+    finish_function(
+        &mut within,
+        limits,
+        after,
+        at,
+        before,
+        function,
+        naming,
+        next,
+    )
 }
 
 // `OB`: heads in the scope outside, then binds, assertions and values inside.
@@ -368,7 +398,17 @@ fn on_members(
         values: fields,
         is_static: is_static(tree, object + offsets::OB_SIZE, fields),
     };
-    finish_object(lent, limits, after, object, before, end, next)
+    let frames = &mut *lent.frames;
+    let references = &mut *lent.references;
+    let mut within = Within {
+        out: lent.out,
+        diagnostics: lent.diagnostics,
+        locals: lent.locals,
+        frames,
+        captures: lent.captures,
+        references,
+    };
+    finish_object(&mut within, limits, after, object, before, end, next)
 }
 
 // The assertions and the values of the object at `object`.
@@ -478,6 +518,38 @@ fn on_held(
     copy_record(tree, lent.out, after, at, next, mark)
 }
 
+// An item with nothing below it, of which `on_leaf` writes neither frames nor references.
+fn on_leaf_item(
+    tree: &[u8],
+    lent: &mut Lent<'_>,
+    limits: Limits,
+    st: AnalysisStack,
+    at: usize,
+    nest: u32,
+    mark: u32,
+    here: Place,
+) -> Walked
+    requires ready { Ready limits (contents lent.old)
+        st tree.now at nest here }
+    requires leaf_there { LeafThere tree.now nest mark at }
+    ensures walks { Walks result limits (contents lent.old)
+        (contents lent.new) st (λ limits σ. run_items
+        tree.now limits nest 1 at (place_of here) σ) }
+    ensures same_buffers { SameBuffers lent.old lent.new }
+{
+    let frames = &mut *lent.frames;
+    let references = &mut *lent.references;
+    let mut within = Within {
+        out: lent.out,
+        diagnostics: lent.diagnostics,
+        locals: lent.locals,
+        frames,
+        captures: lent.captures,
+        references,
+    };
+    on_leaf(tree, &mut within, limits, st, at, nest, mark, here)
+}
+
 // n of them.
 #[cycle(analysis)]
 fn on_items(
@@ -503,7 +575,7 @@ fn on_items(
     for _ in 0..n {
         let mark = mark_at(tree, p);
         let item = if is_leaf(mark) {
-            on_leaf(tree, lent, limits, state, p, nest, mark, here)
+            on_leaf_item(tree, lent, limits, state, p, nest, mark, here)
         } else {
             on_item(tree, lent, limits, state, p, nest, here)
         };
@@ -790,7 +862,7 @@ fn on_param(
                 kept,
                 start: st.out,
                 outer: st.taint,
-                spec: Spec::Param(name, false),
+                spec: Spec::Param(name, 0),
             },
             at + offsets::PA_SIZE,
         );
@@ -821,7 +893,7 @@ fn on_param(
             kept,
             start: st.out,
             outer: st.taint,
-            spec: Spec::Param(name, true),
+            spec: Spec::Param(name, 1),
         },
         next,
     )

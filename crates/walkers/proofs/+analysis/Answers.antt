@@ -272,7 +272,7 @@ on_function-finish_function-requires t c =
 pub on_function-returns-clause-walks : goal.on_function-returns-clause-walks
 unfolding place_of naming_of
 on_function-returns-clause-walks t c =
-    function_ended c.requires.there (naming_of c.args.naming) (place_of c.args.here) c.number_at-n.ensures (function_begun c.begin_function.ensures c.requires.ready c.requires.there c.number_at-n.ensures) c.in_ok-inside.was (record { out = refl; diagnostics = c.begin_function.auto.diagnostics }) c.on_params.ensures.walks c.in_ok-known.was (long_kept c.on_params.ensures.same_buffers) (sym (references_counted (contents c.args.lent.now) c.args.st)) (c.settle_frame-settled.ensures.becomes _ _ _ _ _ (kept_fit c.on_params.ensures.walks c.in_ok-known.was)) long_same c.deeper.ensures.same c.analyze.ensures.walks c.in_ok-after.was (long_kept c.analyze.ensures.same_buffers) c.number_at.ensures (written_counted _ _ c.requires.ready.fit) (written_counted _ _ (kept_fit c.on_params.ensures.walks c.in_ok-known.was)) c.first_defaults-defaults.ensures c.finish_function.ensures.finished
+    let done = function_ended c.requires.there (naming_of c.args.naming) (place_of c.args.here) c.number_at-n.ensures (function_begun c.begin_function.ensures c.requires.ready c.requires.there c.number_at-n.ensures) c.in_ok-inside.was (record { out = refl; diagnostics = c.begin_function.auto.diagnostics }) c.on_params.ensures.walks c.in_ok-known.was (long_kept c.on_params.ensures.same_buffers) (sym (references_counted (contents c.args.lent.now) c.args.st)) (c.settle_frame-settled.ensures.becomes _ _ _ _ _ (kept_fit c.on_params.ensures.walks c.in_ok-known.was)) long_same c.deeper.ensures.same c.analyze.ensures.walks c.in_ok-after.was (long_kept c.analyze.ensures.same_buffers) c.number_at.ensures (written_counted _ _ c.requires.ready.fit) (written_counted _ _ (kept_fit c.on_params.ensures.walks c.in_ok-known.was)) c.first_defaults-defaults.ensures c.finish_function.ensures.finished in search rules
 
 pub on_head-overflow_add-at : goal.on_head-overflow_add-at
 on_head-overflow_add-at t c = omega (arith, (head_fits c.args.tree.now c.args.nest c.args.at c.requires.accepted), c.requires.ready.short)
@@ -400,8 +400,8 @@ pub on_items-loop-init : goal.on_items-loop-init
 on_items-loop-init t c =
     (turn_begin (items_unroll c.args.tree.now c.args.nest (place_of c.args.here)) c.requires.accepted c.requires.ready, search rules)
 
-pub on_items-on_leaf-item-requires-clause-leaf_there : goal.on_items-on_leaf-item-requires-clause-leaf_there
-on_items-on_leaf-item-requires-clause-leaf_there t c =
+pub on_items-on_leaf_item-item-requires-clause-leaf_there : goal.on_items-on_leaf_item-item-requires-clause-leaf_there
+on_items-on_leaf_item-item-requires-clause-leaf_there t c =
     record { read = turn_first (items_unroll c.args.tree.now c.args.nest (place_of c.args.here)) c.loop.invariant.0 c.loop-test.true; marked = sym c.mark_at-mark.ensures.0; leaf = (sym c.is_leaf.ensures ∙ c.if-is_leaf.true) }
 
 pub on_items-on_item-item-requires : goal.on_items-on_item-item-requires
@@ -412,7 +412,7 @@ pub on_items-returns-in_err-state-clause-walks : goal.on_items-returns-in_err-st
 on_items-returns-in_err-state-clause-walks t c =
     let k : Turned c.args.limits c.loop.lent c.if-is_leaf.lent c.loop.state (λ L σ. run_items c.args.tree.now L c.args.nest 1 c.loop.p (place_of c.args.here) σ) c.if-is_leaf.item =
     elim c.if-is_leaf.branch [
-      | goal.on_items-then-is_leaf w ↦ turned w.on_leaf-item.ensures.walks w.on_leaf-item.ensures.same_buffers w.lent-is w.item-is
+      | goal.on_items-then-is_leaf w ↦ turned w.on_leaf_item-item.ensures.walks w.on_leaf_item-item.ensures.same_buffers w.lent-is w.item-is
       | goal.on_items-else-is_leaf w ↦ turned w.on_item-item.ensures.walks w.on_item-item.ensures.same_buffers w.lent-is w.item-is
     ]
     in
@@ -422,7 +422,7 @@ pub on_items-loop-preserved : goal.on_items-loop-preserved
 on_items-loop-preserved t c =
     let k : Turned c.args.limits c.loop.lent c.if-is_leaf.lent c.loop.state (λ L σ. run_items c.args.tree.now L c.args.nest 1 c.loop.p (place_of c.args.here) σ) c.if-is_leaf.item =
     elim c.if-is_leaf.branch [
-      | goal.on_items-then-is_leaf w ↦ turned w.on_leaf-item.ensures.walks w.on_leaf-item.ensures.same_buffers w.lent-is w.item-is
+      | goal.on_items-then-is_leaf w ↦ turned w.on_leaf_item-item.ensures.walks w.on_leaf_item-item.ensures.same_buffers w.lent-is w.item-is
       | goal.on_items-else-is_leaf w ↦ turned w.on_item-item.ensures.walks w.on_item-item.ensures.same_buffers w.lent-is w.item-is
     ]
     in
@@ -501,7 +501,7 @@ on_local-finish_local-requires t c =
 pub on_local-returns-clause-walks : goal.on_local-returns-clause-walks
 unfolding place_of naming_of
 on_local-returns-clause-walks t c =
-    λ ν. local_ended c.requires.there ν (place_of c.args.here) c.number_at-n.ensures c.if-n-eq0.false (local_begun c.begin_local.ensures c.requires.ready c.requires.there c.number_at-n.ensures) c.in_ok-inside.was (record { out = refl; diagnostics = c.begin_local.auto.diagnostics }) c.on_binds.ensures.walks c.in_ok-known.was (long_kept c.on_binds.ensures.same_buffers) (sym (references_counted (contents c.args.lent.now) c.args.st)) (c.settle_frame-settled.ensures.becomes _ _ _ _ _ (kept_fit c.on_binds.ensures.walks c.in_ok-known.was)) long_same c.deeper.ensures.same c.analyze-2.ensures.walks c.in_ok-after.was (long_kept c.analyze-2.ensures.same_buffers) c.finish_local.ensures.finished
+    λ ν. let done = local_ended c.requires.there ν (place_of c.args.here) c.number_at-n.ensures c.if-n-eq0.false (local_begun c.begin_local.ensures c.requires.ready c.requires.there c.number_at-n.ensures) c.in_ok-inside.was (record { out = refl; diagnostics = c.begin_local.auto.diagnostics }) c.on_binds.ensures.walks c.in_ok-known.was (long_kept c.on_binds.ensures.same_buffers) (sym (references_counted (contents c.args.lent.now) c.args.st)) (c.settle_frame-settled.ensures.becomes _ _ _ _ _ (kept_fit c.on_binds.ensures.walks c.in_ok-known.was)) long_same c.deeper.ensures.same c.analyze-2.ensures.walks c.in_ok-after.was (long_kept c.analyze-2.ensures.same_buffers) c.finish_local.ensures.finished in search rules
 
 pub on_members-overflow_add-object : goal.on_members-overflow_add-object
 on_members-overflow_add-object t c = omega (arith, object_fits c.requires.members_there.there, c.requires.ready.short)
@@ -560,7 +560,7 @@ on_members-finish_object-requires t c =
 pub on_members-returns-clause-walks : goal.on_members-returns-clause-walks
 unfolding stack
 on_members-returns-clause-walks t c =
-    members_ended c.args.tree.now c.args.nest c.args.at c.args.object (place_of c.args.here) c.number_at-n.ensures (members_begun c.begin_object.ensures c.requires.ready c.requires.members_there c.number_at-n.ensures) c.in_ok-opened.was (record { out = refl; diagnostics = c.begin_object.auto.diagnostics }) (place_inside (contents c.args.lent.now) c.args.st c.in_object-inside.ensures) c.on_binds.ensures.walks c.in_ok-known.was (long_kept c.on_binds.ensures.same_buffers) (sym (references_counted (contents c.args.lent.now) c.args.st)) (c.settle_frame-settled.ensures.becomes _ _ _ _ _ (kept_fit c.on_binds.ensures.walks c.in_ok-known.was)) long_same c.deeper.ensures.same c.on_fields.ensures.walks c.in_ok-after.was (long_kept c.on_fields.ensures.same_buffers) refl (sym (outermost_so c.args.here)) c.number_at.ensures c.number_at-fields.ensures (static_told c.requires.members_there c.number_at-fields.ensures c.is_static.ensures) (c.finish_object.ensures.finished c.args.st.dollar_used)
+    let done = members_ended c.args.tree.now c.args.nest c.args.at c.args.object (place_of c.args.here) c.number_at-n.ensures (members_begun c.begin_object.ensures c.requires.ready c.requires.members_there c.number_at-n.ensures) c.in_ok-opened.was (record { out = refl; diagnostics = c.begin_object.auto.diagnostics }) (place_inside (contents c.args.lent.now) c.args.st c.in_object-inside.ensures) c.on_binds.ensures.walks c.in_ok-known.was (long_kept c.on_binds.ensures.same_buffers) (sym (references_counted (contents c.args.lent.now) c.args.st)) (c.settle_frame-settled.ensures.becomes _ _ _ _ _ (kept_fit c.on_binds.ensures.walks c.in_ok-known.was)) long_same c.deeper.ensures.same c.on_fields.ensures.walks c.in_ok-after.was (long_kept c.on_fields.ensures.same_buffers) refl (sym (outermost_so c.args.here)) c.number_at.ensures c.number_at-fields.ensures (static_told c.requires.members_there c.number_at-fields.ensures c.is_static.ensures) (c.finish_object.ensures.finished c.args.st.dollar_used) in search rules
 
 pub on_object-overflow_add-at : goal.on_object-overflow_add-at
 on_object-overflow_add-at t c = omega (arith, object_fits c.requires.there, c.requires.ready.short)
