@@ -12,7 +12,7 @@ pub fn byte_at(s: &[u8], at: usize) -> u32
     if at < s.len() { u32::from(s[at]) } else { 0 }
 }
 
-// The two bytes at an offset as a mark.
+// The two bytes at an offset as a mark. Where both are there, none is asked for its place.
 #[tactic(auto, unfolding(rules::specs::Numbers::code_at))]
 pub fn mark_at(s: &[u8], at: usize) -> u32
     ensures { (result ≡ code_at s.now at) × (result < 65536) }
@@ -20,7 +20,10 @@ pub fn mark_at(s: &[u8], at: usize) -> u32
     if s.len() <= at {
         return 0;
     }
-    256 * byte_at(s, at) + byte_at(s, at + 1)
+    if 2 <= s.len() - at {
+        return 256 * u32::from(s[at]) + u32::from(s[at + 1]);
+    }
+    256 * byte_at(s, at)
 }
 
 // The number at an offset. Where all four bytes are there, none is asked for its place: put into callers, of which most know that they are.

@@ -65,7 +65,8 @@ pub const NA: u32 = 0x4e41;
 
 pub const PT: u32 = 0x5054;
 
-// The number at an offset as a count.
+// The number at an offset as a count. Inlined as `number_at` is.
+#[inline(always)]
 pub fn count_at(s: &[u8], at: usize) -> usize
     ensures { (result ≡ number_at s.now at) × (result < 4294967296) }
 {
@@ -79,7 +80,8 @@ pub fn has_room(tree: &[u8], at: usize, n: usize) -> bool
     n <= tree.len() && at <= tree.len() - n
 }
 
-// The bytes that a record with this mark takes.
+// The bytes that a record with this mark takes. Inlined: most callers know the mark.
+#[inline(always)]
 pub fn size_of(mark: u32) -> usize
     ensures { (result ≡ size_of (mark_of mark)) × (2 ≤ result) × (result ≤ 26) }
 {

@@ -29,11 +29,11 @@ pub enum Reason {
     ReferenceLimit = 17,
 }
 
-/// A reason, and the offset of the record that was being handled.
+/// A reason, and the offset of the record that was being handled. The place is first: there an answer that is a place has its own.
 #[derive(Clone, Copy, Debug, PartialEq, Eq)]
 pub struct Refusal {
-    pub reason: Reason,
     pub place: usize,
+    pub reason: Reason,
 }
 
 impl Reason {
@@ -45,7 +45,8 @@ impl Reason {
         self as u32
     }
 
-    /// A refusal for this reason, at a place in the tree.
+    /// A refusal for this reason, at a place in the tree. Not inlined: refusals are rare, and callers store their answers in fewer parts.
+    #[inline(never)]
     pub fn at(self, place: usize) -> Refusal
         ensures { result ≡ record { reason = self; place = place } }
     {

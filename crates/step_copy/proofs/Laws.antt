@@ -7,7 +7,7 @@ use native.Mathlib.Numerals.{add-one}
 use native.Mathlib.Omega.{arith}
 use borrow.Author.Tests.{leb-true, leb-false}
 use lib.ListN.{length, get_or, take, drop, length-append, length-drop}
-use lib.Seq.{take_at, length-take-le, sets, sets-eq, length-sets}
+use lib.Seq.{drop-drop, take-add, take_at, length-take-le, sets, sets-eq, length-sets}
 use lib.Dec.{leb}
 use borrow.Rule.Slice.PartMut.{put_mid}
 use Rattle.std.specs.List.{between}
@@ -49,6 +49,23 @@ part_copied l s part to from n is room there =
     put_mid-paste to (to + n - to) l part bytes (length bytes) same (omega (arith, long)) refl
     ∙ paste_all l to bytes (length bytes) refl
     ∙ sym (sets-eq bytes l to (omega (arith, long)) ∙ append_assoc (take to l) bytes (drop (to + length bytes) l))
+
+-- so many bytes more are copied
+pub bytes_more : (l : List ℕ) (used : ℕ) (s : List ℕ) (at i n : ℕ) → at + i ≤ length s
+    → sets (sets l used (take i (drop at s))) (used + i) (take n (drop (at + i) s)) ≡ sets l used (take (i + n) (drop at s))
+bytes_more l used s at i n within =
+    let long : length (take i (drop at s)) ≡ i = length-take-le i (drop at s) (omega (arith, length-drop at s)) in
+    let behind : used + i ≡ used + length (take i (drop at s)) = omega (arith, long) in
+    ap (λ (k : ℕ). sets (sets l used (take i (drop at s))) k (take n (drop (at + i) s))) behind
+    ∙ sets_append l used (take i (drop at s)) (take n (drop (at + i) s))
+    ∙ ap (λ (bs : List ℕ). sets l used bs) (ap (λ (rest : List ℕ). take i (drop at s) ++ take n rest) (sym (drop-drop i at s)) ∙ sym (take-add i n (drop at s)))
+
+-- a number more is copied
+pub number_more : (l : List ℕ) (used : ℕ) (s : List ℕ) (at i : ℕ) → at + (2 + 4 * i) ≤ length s
+    → sets (sets l used (take (2 + 4 * i) (drop at s))) (used + (2 + 4 * i)) (take 4 (drop (at + (2 + 4 * i)) s)) ≡ sets l used (take (2 + 4 * (i + 1)) (drop at s))
+number_more l used s at i within =
+    let e : 2 + 4 * i + 4 ≡ 2 + 4 * (i + 1) = omega arith in
+    bytes_more l used s at (2 + 4 * i) 4 within ∙ ap (λ (k : ℕ). sets l used (take k (drop at s))) e
 
 -- What they spell
 

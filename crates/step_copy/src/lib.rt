@@ -24,7 +24,21 @@ fn copy_four(out: &mut [u8], to: usize, tree: &[u8], from: usize)
     out[to..to + 4].copy_from_slice(&tree[from..from + 4]);
 }
 
+// A mark and n numbers after the bytes that are used. One number after another: a copy of a length that is known only when it runs would call
+// `memmove`, and a caller in C is promised that nothing but `memset` is called. Inlined as `copy_record` is, whose answer is then made where it goes.
+#[inline(always)]
+fn copy_bytes(out: &mut [u8], used: usize, tree: &[u8], at: usize, n: usize)
+    requires { (used + (2 + 4 * n) ≤ length out.old) × (at + (2 + 4 * n) ≤ length tree.now) }
+    ensures { out.new ≡ sets out.old used (take (2 + 4 * n) (drop at tree.now)) }
+{
+    out[used..used + 2].copy_from_slice(&tree[at..at + 2]);
+    for i in 0..n {
+        copy_four(out, used + (2 + 4 * i), tree, at + (2 + 4 * i));
+    }
+}
+
 // A record of the tree that is the output's too, or refusal 9.
+#[inline(always)]
 pub fn copy_record(
     tree: &[u8],
     out: &mut [u8],
@@ -39,7 +53,7 @@ pub fn copy_record(
     let size = size_of(mark);
     if has_room(out, st.out, size) {
         let end = st.out + size;
-        out[st.out..end].copy_from_slice(&tree[at..at + size]);
+        copy_bytes(out, st.out, tree, at, (size - 2) / 4);
         return Ok((AnalysisStack { out: end, ..st }, next));
     }
     Err(Reason::OutputFull.at(at))

@@ -1,4 +1,5 @@
-// The first walk over a packed tree.
+// The first walk over a packed tree. Where small walkers hand on another's answer they say `Ok(f(..)?)` and not `f(..)`: so only the place
+// goes on, and not a copy of all that an answer may hold. `in_range`, `judged`, `expect` and `walk_held` are inlined: a known mark has a known size.
 
 #![tactic(auto)]
 
@@ -32,6 +33,7 @@ fn head_in_range(bytes: &[u8]) -> bool
 }
 
 // Whether the record with this mark that the bytes begin with has its flags, kind, set and visibility in range.
+#[inline(always)]
 fn in_range(bytes: &[u8], mark: u32) -> bool
     ensures { result ≡ all_in_range (fields (mark_of mark)) (numbers_at bytes.now (numbers_of (mark_of mark)) 2) }
 {
@@ -50,6 +52,7 @@ fn in_range(bytes: &[u8], mark: u32) -> bool
 }
 
 // The place after the record with this mark, where it is whole and in range.
+#[inline(always)]
 fn judged(tree: &[u8], at: usize, mark: u32) -> Result<usize, Refusal>
     ensures { seen result ≡ judged_at tree.now (mark_of mark) at }
 {
@@ -75,6 +78,7 @@ fn opened(tree: &[u8], at: usize, nest: u32, mark: u32) -> Result<usize, Refusal
 }
 
 // The place after the record at an offset, which must have this mark.
+#[inline(always)]
 fn expect(tree: &[u8], at: usize, mark: u32) -> Result<usize, Refusal>
     ensures { Expected tree.now mark at result }
 {
@@ -96,15 +100,24 @@ pub fn walk_expr(tree: &[u8], at: usize, nest: u32) -> Result<usize, Refusal>
         return Err(Reason::CutShort.at(at));
     }
     let mark = mark_at(tree, at);
+    // An arm for each mark, so that what is inlined there knows it: with shared arms the walk takes about twice the time.
     match mark {
-        ID | TV | VA | IM => opened(tree, at, nest, mark),
+        ID => opened(tree, at, nest, mark),
+        TV => opened(tree, at, nest, mark),
+        VA => opened(tree, at, nest, mark),
         AR => walk_array(tree, at, nest),
         OX => walk_extended(tree, at, nest),
-        UN | BI | AS | ER | IF | SC => walk_plain(tree, at, nest, mark),
+        UN => walk_plain(tree, at, nest, mark),
+        BI => walk_plain(tree, at, nest, mark),
+        AS => walk_plain(tree, at, nest, mark),
         LO => walk_local(tree, at, nest),
+        ER => walk_plain(tree, at, nest, mark),
+        IM => opened(tree, at, nest, mark),
         AP => walk_call(tree, at, nest),
         IX => walk_index(tree, at, nest),
         FN => walk_function(tree, at, nest),
+        IF => walk_plain(tree, at, nest, mark),
+        SC => walk_plain(tree, at, nest, mark),
         OB => walk_object(tree, at, nest),
         _ => Err(Reason::WrongMark.at(at)),
     }
@@ -122,7 +135,7 @@ fn walk_only(tree: &[u8], at: usize, nest: u32, mark: u32) -> Result<usize, Refu
     if mark_at(tree, at) != mark {
         return Err(Reason::WrongMark.at(at));
     }
-    walk_expr(tree, at, nest)
+    Ok(walk_expr(tree, at, nest)?)
 }
 
 // n expressions. Three such loops stay: one over an enum needs the enum, a match and a measure by its cases; over a closure, two clauses at each call.
@@ -144,7 +157,7 @@ fn walk_plain(tree: &[u8], at: usize, nest: u32, mark: u32) -> Result<usize, Ref
 {
     let next = opened(tree, at, nest, mark)?;
     let n = children(&tree[at..], mark);
-    walk_exprs(tree, next, nest - 1, n)
+    Ok(walk_exprs(tree, next, nest - 1, n)?)
 }
 
 // `AR`, whose items count for no nesting where all are constants.
@@ -264,12 +277,13 @@ fn walk_object(tree: &[u8], at: usize, nest: u32) -> Result<usize, Refusal>
 
 // `PA`, `FH`, `NA`, `PT`, `AT` or `BV`, with the expressions below it.
 #[cycle(first_walk)]
+#[inline(always)]
 fn walk_held(tree: &[u8], at: usize, nest: u32, mark: u32) -> Result<usize, Refusal>
     ensures { seen result ≡ held_past tree.now nest mark at }
 {
     let next = expect(tree, at, mark)?;
     let n = children(&tree[at..], mark);
-    walk_exprs(tree, next, nest, n)
+    Ok(walk_exprs(tree, next, nest, n)?)
 }
 
 // n times such a record.
@@ -290,10 +304,10 @@ fn walk_bind(tree: &[u8], at: usize, nest: u32) -> Result<usize, Refusal>
     ensures { seen result ≡ bind_past tree.now nest at }
 {
     if mark_at(tree, at) != BF {
-        return walk_held(tree, at, nest, BV);
+        return Ok(walk_held(tree, at, nest, BV)?);
     }
     let next = expect(tree, at, BF)?;
-    walk_only(tree, next, nest, FN)
+    Ok(walk_only(tree, next, nest, FN)?)
 }
 
 // n binds.
@@ -315,9 +329,9 @@ fn walk_value(tree: &[u8], at: usize, nest: u32, head: usize) -> Result<usize, R
     ensures { seen result ≡ value_past tree.now nest head at }
 {
     if number_at(tree, head + offsets::FH_METHOD) == 0 {
-        return walk_expr(tree, at, nest);
+        return Ok(walk_expr(tree, at, nest)?);
     }
-    walk_only(tree, at, nest, FN)
+    Ok(walk_only(tree, at, nest, FN)?)
 }
 
 // The values of n fields, whose heads were read from `heads` on.

@@ -1,7 +1,8 @@
 -- The answers for the seventeen members of the cycle, by what each promises below its measure. Assumes nothing.
-use Rattle.std.proofs.Common.{arith, length, refl, sym, ◌∙◌}
+use Rattle.std.proofs.Common.{ap, arith, inl, inr, length, refl, sym, ◌∙◌}
 use Rattle.rules.specs.Numbers.{code}
 use Rattle.tree.proofs.Walks.{array_refused, array_constant, array_went, bind_held, bind_refused, bind_went, call_refused, values_refused, call_went, expr_unknown, leaf_here, plain_here, extended_refused, base_refused, extended_went, function_refused, params_refused, function_went, held_refused, held_went, index_refused, value_refused, index_went, local_refused, binds_refused, local_went, object_refused, heads_refused, locals_refused, assertions_refused, object_went, plain_refused, plain_went, value_any, value_method, values_end, head_here, values_stop, values_next}
+use Rattle.tree.specs.Seen.{seen}
 use Rattle.tree.specs.Places.{a_function, bind_past, an_object}
 use Rattle.tree.proofs.Turns.{turn_stop, turn_next, turn_end}
 use Rattle.rules.specs.FirstWalk.{any_expression, rows}
@@ -25,11 +26,15 @@ walk_array-returns t c =
 
 pub walk_bind-returns-then-mark_at-ne-BF : goal.walk_bind-returns-then-mark_at-ne-BF
 walk_bind-returns-then-mark_at-ne-BF t c =
-    bind_held c.args.tree.now c.args.nest c.args.at c.mark_at.ensures.0 c.if-mark_at-ne-BF.true c.walk_held.ensures
+    ap seen (sym c.in_ok-walk_held.was) ∙ (bind_held c.args.tree.now c.args.nest c.args.at c.mark_at.ensures.0 c.if-mark_at-ne-BF.true c.walk_held.ensures)
+
+pub walk_bind-returns-in_err-walk_held : goal.walk_bind-returns-in_err-walk_held
+walk_bind-returns-in_err-walk_held t c =
+    rw (handed c.from_residual.ensures.1 c.in_err-walk_held.was) (bind_held c.args.tree.now c.args.nest c.args.at c.mark_at.ensures.0 c.if-mark_at-ne-BF.true c.walk_held.ensures)
 
 pub walk_bind-returns-in_err-next : goal.walk_bind-returns-in_err-next
 walk_bind-returns-in_err-next t c =
-    rw (handed c.from_residual.ensures.1 c.in_err-next.was) (bind_refused c.args.tree.now c.args.nest c.args.at c.mark_at.ensures.0 c.if-mark_at-ne-BF.false c.expect.ensures.same c.in_err-next.was)
+    rw (handed c.from_residual-in_err-next.ensures.1 c.in_err-next.was) (bind_refused c.args.tree.now c.args.nest c.args.at c.mark_at.ensures.0 c.if-mark_at-ne-BF.false c.expect.ensures.same c.in_err-next.was)
 
 pub walk_bind-walk_only-requires : goal.walk_bind-walk_only-requires
 unfolding code
@@ -37,7 +42,11 @@ walk_bind-walk_only-requires t c = (omega arith, a_function refl)
 
 pub walk_bind-returns : goal.walk_bind-returns
 walk_bind-returns t c =
-    bind_went c.args.tree.now c.args.nest c.args.at c.mark_at.ensures.0 c.if-mark_at-ne-BF.false c.expect.ensures.same c.in_ok-next.was c.walk_only.ensures
+    ap seen (sym c.in_ok-walk_only.was) ∙ (bind_went c.args.tree.now c.args.nest c.args.at c.mark_at.ensures.0 c.if-mark_at-ne-BF.false c.expect.ensures.same c.in_ok-next.was c.walk_only.ensures)
+
+pub walk_bind-returns-in_err-walk_only : goal.walk_bind-returns-in_err-walk_only
+walk_bind-returns-in_err-walk_only t c =
+    rw (handed c.from_residual-in_err-walk_only.ensures.1 c.in_err-walk_only.was) (bind_went c.args.tree.now c.args.nest c.args.at c.mark_at.ensures.0 c.if-mark_at-ne-BF.false c.expect.ensures.same c.in_ok-next.was c.walk_only.ensures)
 
 pub walk_binds-returns-in_err-p : goal.walk_binds-returns-in_err-p
 walk_binds-returns-in_err-p t c =
@@ -68,7 +77,19 @@ walk_expr-returns-then-not-has_room t c =
 
 pub walk_expr-returns-in-18756 : goal.walk_expr-returns-in-18756
 walk_expr-returns-in-18756 t c =
-    leaf_here c.args.tree.now c.args.nest c.args.at (room_there c.args.at 2 (length c.args.tree.now) _ c.has_room.ensures c.if-not-has_room.false) c.mark_at-mark.ensures.0 c.in-18756.is c.opened.ensures.same
+    leaf_here c.args.tree.now c.args.nest c.args.at (room_there c.args.at 2 (length c.args.tree.now) _ c.has_room.ensures c.if-not-has_room.false) c.mark_at-mark.ensures.0 (inl c.in-18756.is) c.opened.ensures.same
+
+pub walk_expr-returns-in-18765 : goal.walk_expr-returns-in-18765
+walk_expr-returns-in-18765 t c =
+    leaf_here c.args.tree.now c.args.nest c.args.at (room_there c.args.at 2 (length c.args.tree.now) _ c.has_room.ensures c.if-not-has_room.false) c.mark_at-mark.ensures.0 (inr (inl c.in-18765.is)) c.opened-in-18765.ensures.same
+
+pub walk_expr-returns-in-21590 : goal.walk_expr-returns-in-21590
+walk_expr-returns-in-21590 t c =
+    leaf_here c.args.tree.now c.args.nest c.args.at (room_there c.args.at 2 (length c.args.tree.now) _ c.has_room.ensures c.if-not-has_room.false) c.mark_at-mark.ensures.0 (inr (inr (inl c.in-21590.is))) c.opened-in-21590.ensures.same
+
+pub walk_expr-returns-in-22081 : goal.walk_expr-returns-in-22081
+walk_expr-returns-in-22081 t c =
+    leaf_here c.args.tree.now c.args.nest c.args.at (room_there c.args.at 2 (length c.args.tree.now) _ c.has_room.ensures c.if-not-has_room.false) c.mark_at-mark.ensures.0 (inr (inr (inr c.in-22081.is))) c.opened-in-22081.ensures.same
 
 pub walk_expr-returns-in-16722 : goal.walk_expr-returns-in-16722
 walk_expr-returns-in-16722 t c =
@@ -78,9 +99,29 @@ pub walk_expr-returns-in-20312 : goal.walk_expr-returns-in-20312
 walk_expr-returns-in-20312 t c =
     c.walk_extended.ensures ∙ expr_extended c.args.tree.now c.args.nest c.args.at (room_there c.args.at 2 (length c.args.tree.now) _ c.has_room.ensures c.if-not-has_room.false) (sym c.mark_at-mark.ensures.0 ∙ c.in-20312.is)
 
+pub walk_expr-returns-in-16723 : goal.walk_expr-returns-in-16723
+walk_expr-returns-in-16723 t c =
+    plain_here c.args.tree.now c.args.nest c.args.at (room_there c.args.at 2 (length c.args.tree.now) _ c.has_room.ensures c.if-not-has_room.false) c.mark_at-mark.ensures.0 (inl c.in-16723.is) c.walk_plain-in-16723.ensures
+
+pub walk_expr-returns-in-16969 : goal.walk_expr-returns-in-16969
+walk_expr-returns-in-16969 t c =
+    plain_here c.args.tree.now c.args.nest c.args.at (room_there c.args.at 2 (length c.args.tree.now) _ c.has_room.ensures c.if-not-has_room.false) c.mark_at-mark.ensures.0 (inr (inl c.in-16969.is)) c.walk_plain-in-16969.ensures
+
+pub walk_expr-returns-in-17746 : goal.walk_expr-returns-in-17746
+walk_expr-returns-in-17746 t c =
+    plain_here c.args.tree.now c.args.nest c.args.at (room_there c.args.at 2 (length c.args.tree.now) _ c.has_room.ensures c.if-not-has_room.false) c.mark_at-mark.ensures.0 (inr (inr (inl c.in-17746.is))) c.walk_plain-in-17746.ensures
+
+pub walk_expr-returns-in-18758 : goal.walk_expr-returns-in-18758
+walk_expr-returns-in-18758 t c =
+    plain_here c.args.tree.now c.args.nest c.args.at (room_there c.args.at 2 (length c.args.tree.now) _ c.has_room.ensures c.if-not-has_room.false) c.mark_at-mark.ensures.0 (inr (inr (inr (inl c.in-18758.is)))) c.walk_plain-in-18758.ensures
+
+pub walk_expr-returns-in-21315 : goal.walk_expr-returns-in-21315
+walk_expr-returns-in-21315 t c =
+    plain_here c.args.tree.now c.args.nest c.args.at (room_there c.args.at 2 (length c.args.tree.now) _ c.has_room.ensures c.if-not-has_room.false) c.mark_at-mark.ensures.0 (inr (inr (inr (inr (inl c.in-21315.is))))) c.walk_plain-in-21315.ensures
+
 pub walk_expr-returns-in-21838 : goal.walk_expr-returns-in-21838
 walk_expr-returns-in-21838 t c =
-    plain_here c.args.tree.now c.args.nest c.args.at (room_there c.args.at 2 (length c.args.tree.now) _ c.has_room.ensures c.if-not-has_room.false) c.mark_at-mark.ensures.0 c.in-21838.is c.walk_plain.ensures
+    plain_here c.args.tree.now c.args.nest c.args.at (room_there c.args.at 2 (length c.args.tree.now) _ c.has_room.ensures c.if-not-has_room.false) c.mark_at-mark.ensures.0 (inr (inr (inr (inr (inr c.in-21838.is))))) c.walk_plain.ensures
 
 pub walk_expr-returns-in-19535 : goal.walk_expr-returns-in-19535
 walk_expr-returns-in-19535 t c =
@@ -155,7 +196,11 @@ walk_held-returns-in_err-next t c =
 
 pub walk_held-returns : goal.walk_held-returns
 walk_held-returns t c =
-    held_went c.args.tree.now c.args.nest c.args.at c.args.mark c.expect.ensures.same c.in_ok-next.was c.children-n.ensures c.walk_exprs.ensures
+    ap seen (sym c.in_ok-walk_exprs.was) ∙ held_went c.args.tree.now c.args.nest c.args.at c.args.mark c.expect.ensures.same c.in_ok-next.was c.children-n.ensures c.walk_exprs.ensures
+
+pub walk_held-returns-in_err-walk_exprs : goal.walk_held-returns-in_err-walk_exprs
+walk_held-returns-in_err-walk_exprs t c =
+    rw (handed c.from_residual-in_err-walk_exprs.ensures.1 c.in_err-walk_exprs.was) (held_went c.args.tree.now c.args.nest c.args.at c.args.mark c.expect.ensures.same c.in_ok-next.was c.children-n.ensures c.walk_exprs.ensures)
 
 pub walk_index-returns-in_err-next : goal.walk_index-returns-in_err-next
 walk_index-returns-in_err-next t c =
@@ -226,7 +271,11 @@ walk_only-returns-then-mark_at-mark t c =
 
 pub walk_only-returns : goal.walk_only-returns
 walk_only-returns t c =
-    c.walk_expr.ensures ∙ lone_here c.args.tree.now c.args.nest c.args.at (room_there c.args.at 2 (length c.args.tree.now) _ c.has_room.ensures c.if-not-has_room.false) c.requires (sym c.mark_at.ensures.0 ∙ c.if-mark_at-mark.false)
+    ap seen (sym c.in_ok-walk_expr.was) ∙ (c.walk_expr.ensures ∙ lone_here c.args.tree.now c.args.nest c.args.at (room_there c.args.at 2 (length c.args.tree.now) _ c.has_room.ensures c.if-not-has_room.false) c.requires (sym c.mark_at.ensures.0 ∙ c.if-mark_at-mark.false))
+
+pub walk_only-returns-in_err-walk_expr : goal.walk_only-returns-in_err-walk_expr
+walk_only-returns-in_err-walk_expr t c =
+    rw (handed c.from_residual.ensures.1 c.in_err-walk_expr.was) (c.walk_expr.ensures ∙ lone_here c.args.tree.now c.args.nest c.args.at (room_there c.args.at 2 (length c.args.tree.now) _ c.has_room.ensures c.if-not-has_room.false) c.requires (sym c.mark_at.ensures.0 ∙ c.if-mark_at-mark.false))
 
 pub walk_plain-returns-in_err-next : goal.walk_plain-returns-in_err-next
 walk_plain-returns-in_err-next t c =
@@ -234,11 +283,19 @@ walk_plain-returns-in_err-next t c =
 
 pub walk_plain-returns : goal.walk_plain-returns
 walk_plain-returns t c =
-    plain_went c.args.tree.now c.args.nest c.args.at c.args.mark c.opened.ensures.same c.in_ok-next.was c.children-n.ensures c.walk_exprs.ensures
+    ap seen (sym c.in_ok-walk_exprs.was) ∙ plain_went c.args.tree.now c.args.nest c.args.at c.args.mark c.opened.ensures.same c.in_ok-next.was c.children-n.ensures c.walk_exprs.ensures
+
+pub walk_plain-returns-in_err-walk_exprs : goal.walk_plain-returns-in_err-walk_exprs
+walk_plain-returns-in_err-walk_exprs t c =
+    rw (handed c.from_residual-in_err-walk_exprs.ensures.1 c.in_err-walk_exprs.was) (plain_went c.args.tree.now c.args.nest c.args.at c.args.mark c.opened.ensures.same c.in_ok-next.was c.children-n.ensures c.walk_exprs.ensures)
 
 pub walk_value-returns-then-number_at-eq0 : goal.walk_value-returns-then-number_at-eq0
 walk_value-returns-then-number_at-eq0 t c =
-    value_any c.args.tree.now c.args.nest c.args.at c.args.head c.number_at.ensures c.if-number_at-eq0.true c.walk_expr.ensures
+    ap seen (sym c.in_ok-walk_expr.was) ∙ (value_any c.args.tree.now c.args.nest c.args.at c.args.head c.number_at.ensures c.if-number_at-eq0.true c.walk_expr.ensures)
+
+pub walk_value-returns-in_err-walk_expr : goal.walk_value-returns-in_err-walk_expr
+walk_value-returns-in_err-walk_expr t c =
+    rw (handed c.from_residual.ensures.1 c.in_err-walk_expr.was) (value_any c.args.tree.now c.args.nest c.args.at c.args.head c.number_at.ensures c.if-number_at-eq0.true c.walk_expr.ensures)
 
 pub walk_value-walk_only-requires : goal.walk_value-walk_only-requires
 unfolding code
@@ -246,7 +303,11 @@ walk_value-walk_only-requires t c = (omega arith, a_function refl)
 
 pub walk_value-returns : goal.walk_value-returns
 walk_value-returns t c =
-    value_method c.args.tree.now c.args.nest c.args.at c.args.head c.number_at.ensures c.if-number_at-eq0.false c.walk_only.ensures
+    ap seen (sym c.in_ok-walk_only.was) ∙ (value_method c.args.tree.now c.args.nest c.args.at c.args.head c.number_at.ensures c.if-number_at-eq0.false c.walk_only.ensures)
+
+pub walk_value-returns-in_err-walk_only : goal.walk_value-returns-in_err-walk_only
+walk_value-returns-in_err-walk_only t c =
+    rw (handed c.from_residual-in_err-walk_only.ensures.1 c.in_err-walk_only.was) (value_method c.args.tree.now c.args.nest c.args.at c.args.head c.number_at.ensures c.if-number_at-eq0.false c.walk_only.ensures)
 
 pub walk_values-walk_value-requires : goal.walk_values-walk_value-requires
 walk_values-walk_value-requires t c = (omega arith, head_here c.args.tree.now c.args.nest c.loop.invariant c.loop-test.true)
