@@ -80,7 +80,7 @@ pub fn has_room(tree: &[u8], at: usize, n: usize) -> bool
     n <= tree.len() && at <= tree.len() - n
 }
 
-// The bytes that a record with this mark takes. Inlined: most callers know the mark.
+// The bytes that a record with this mark takes. Inlined: in the first walk most callers know the mark.
 #[inline(always)]
 pub fn size_of(mark: u32) -> usize
     ensures { (result ≡ size_of (mark_of mark)) × (2 ≤ result) × (result ≤ 26) }

@@ -1,5 +1,5 @@
-// The first walk over a packed tree. Where small walkers hand on another's answer they say `Ok(f(..)?)` and not `f(..)`: so only the place
-// goes on, and not a copy of all that an answer may hold. `in_range`, `judged`, `expect` and `walk_held` are inlined: a known mark has a known size.
+// The first walk over a packed tree. `walk_only`, `walk_plain`, `walk_held`, `walk_bind` and `walk_value` hand another's answer on by `Ok(f(..)?)`
+// and not by `f(..)`: so only the place goes on, and not a copy of all that an answer may hold. What is inlined is told a mark that most callers know.
 
 #![tactic(auto)]
 
